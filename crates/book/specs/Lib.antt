@@ -1,0 +1,14 @@
+pub mod Page
+pub mod Cell
+pub mod Work
+pub mod Bytes
+pub mod Pages
+pub mod Copy
+pub mod Need
+pub mod Book
+pub mod Needed
+pub mod File
+pub mod Sound
+pub mod Compute
+pub mod Cases
+pub mod Examples

@@ -1,0 +1,6 @@
+pub mod Test
+pub mod Paste
+pub mod Mapped
+pub mod Listed
+pub mod Every
+pub mod Rest

@@ -1,0 +1,1 @@
+// Laws on lists and choices only: see specs/.

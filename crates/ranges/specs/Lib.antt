@@ -1,0 +1,12 @@
+pub mod Range
+pub mod Table
+pub mod Cut
+pub mod Put
+pub mod Piece
+pub mod Find
+pub mod Over
+pub mod Hold
+pub mod Fresh
+pub mod Few
+pub mod Parts
+pub mod Met
