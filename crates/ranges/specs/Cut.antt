@@ -1,41 +1,40 @@
 -- The laws of cutting pages out of a table of ranges.
-use mathlib.Core.Path.{_≡_, refl, _∙_}
+use mathlib.Core.Path.{_≡_, refl, _∙_, ap}
 use mathlib.Core.Option.{none, some}
 use mathlib.Core.List.{List, [], _∷_, _++_}
 use Prim.Native.Nat.{ℕ, _+_, _-_, _≤_, _<_, min}
 use native.Mathlib.Omega.{arith}
 use borrow.Author.Tests.{lt-ltb, le-ltb, le-leb, lt-leb}
 use Rattle.lists.specs.Test.{by-lt}
-use Rattle.ranges.specs.Range.{Range, from, upto, skip, keep, front, back, carve, slotIn, slotAt, Rising}
-use mathlib.Core.Path.{ap}
+use Rattle.ranges.specs.Range.{Range, Ranged, from, upto, skip, keep, front, back, carve, slotIn, slotAt, Rising}
 
 -- a range that ends by a keeps its front whole, and has no back
-pub front-below : (a : ℕ) (r : Range) → upto r ≤ a → 0 < r .len → front a r ≡ r ∷ []
+pub front-below : {B : Type 0} (a : ℕ) (r : Ranged B) → upto r ≤ a → 0 < r .len → front a r ≡ r ∷ []
 unfolding front
 front-below a r h l =
     let t : from r < a = omega arith in
     let m : min (r .len) (a - from r) ≡ r .len = omega arith in
     rw (lt-ltb (from r) a t, m)
 
-pub Rising-weaken : (low low′ : ℕ) (rs : List Range) → low′ ≤ low → Rising low rs → Rising low′ rs
+pub Rising-weaken : {B : Type 0} (low low′ : ℕ) (rs : List (Ranged B)) → low′ ≤ low → Rising low rs → Rising low′ rs
 unfolding Rising
 Rising-weaken low low′ [] h s = tt
 Rising-weaken low low′ (r ∷ rs) h s = (omega arith, s .1, s .2)
 
 -- the four cases
-pub front-some : (a : ℕ) (r : Range) → from r < a → front a r ≡ keep (min (r .len) (a - from r)) r ∷ []
+pub front-some : {B : Type 0} (a : ℕ) (r : Ranged B) → from r < a → front a r ≡ keep (min (r .len) (a - from r)) r ∷ []
 unfolding front
 front-some a r h = rw (lt-ltb (from r) a h)
 
-pub front-none : (a : ℕ) (r : Range) → a ≤ from r → front a r ≡ []
+pub front-none : {B : Type 0} (a : ℕ) (r : Ranged B) → a ≤ from r → front a r ≡ []
 unfolding front
 front-none a r h = rw (le-ltb (from r) a h)
 
-pub back-some : (e : ℕ) (r : Range) → e < upto r → back e r ≡ skip (e - from r) r ∷ []
+pub back-some : {B : Type 0} (e : ℕ) (r : Ranged B) → e < upto r → back e r ≡ skip (e - from r) r ∷ []
 unfolding back
 back-some e r h = rw (lt-ltb e (upto r) h)
 
-pub back-none : (e : ℕ) (r : Range) → upto r ≤ e → back e r ≡ []
+pub back-none : {B : Type 0} (e : ℕ) (r : Ranged B) → upto r ≤ e → back e r ≡ []
 unfolding back
 back-none e r h = rw (le-ltb e (upto r) h)
 
@@ -127,7 +126,7 @@ carve-above a e g [] h k = refl
 carve-above a e g (r ∷ rs) h k = one-above a e g r (carve a e rs) h k ∙ slot-cons g r (carve a e rs) rs (carve-above a e g rs h k)
 
 -- Rising: the pieces rise where the ranges did
-pub carve-rising : (a e low : ℕ) (rs : List Range) → a ≤ e → Rising low rs → Rising low (carve a e rs)
+pub carve-rising : {B : Type 0} (a e low : ℕ) (rs : List (Ranged B)) → a ≤ e → Rising low rs → Rising low (carve a e rs)
 unfolding carve Rising
 carve-rising a e low [] h s = tt
 carve-rising a e low (r ∷ rs) h s =

@@ -9,7 +9,7 @@ use native.Mathlib.Omega.{arith}
 use lib.Dec.{ltb, leb, eqb}
 use borrow.Author.Tests.{ltb-true, ltb-false, leb-true, eqb-true, lt-ltb, le-leb, eq-eqb}
 use Rattle.lists.specs.Test.{by-test, and-left, and-right}
-use Rattle.ranges.specs.Range.{Range, Slot, from, upto, slotIn, slotAt, Rising}
+use Rattle.ranges.specs.Range.{Range, Ranged, Slot, from, upto, slotIn, slotAt, Rising}
 use Rattle.ranges.specs.Table.{window, named, someOr, previous}
 use Rattle.ranges.specs.Cut.{slot-hit, slot-low, slot-high}
 
@@ -37,7 +37,7 @@ found g (r ∷ rs) s e =
 
 -- a table's ranges do not overlap: a page is in one range at most
 
-pub rising-low : (low : ℕ) (r : Range) (rs : List Range) → Rising low rs → List·Memᴰ r rs → low ≤ from r
+pub rising-low : {B : Type 0} (low : ℕ) (r : Ranged B) (rs : List (Ranged B)) → Rising low rs → List·Memᴰ r rs → low ≤ from r
 unfolding Rising
 rising-low low r [] s m = absurd (List·Memᴰ·not-nil m)
 rising-low low r (q ∷ rs) s m =

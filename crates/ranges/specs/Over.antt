@@ -6,12 +6,12 @@ use mathlib.Core.List.{List, [], _∷_, _++_, List·Memᴰ, List·Memᴰ·head, 
 use Prim.Native.Nat.{ℕ, _-_, _≤_, _<_}
 use native.Mathlib.Omega.{arith}
 use Rattle.lists.specs.Test.{by-lt}
-use Rattle.ranges.specs.Range.{Range, from, upto, slotIn, slotAt, front, back, carve, insert, put, Rising}
+use Rattle.ranges.specs.Range.{Range, Ranged, from, upto, slotIn, slotAt, front, back, carve, insert, put, Rising}
 use Rattle.ranges.specs.Cut.{carve-below, carve-above, carve-rising, front-below, front-none, back-some, back-none}
 use Rattle.ranges.specs.Piece.{Cut, carve-mem, insert-mem, insert-in, clear-mem, Piece}
 use Rattle.ranges.specs.Put.{insert-here, insert-later, insert-other, insert-hit, insert-rising, carve-clear, skip-zero}
 
-pub put-rising : (n : Range) (rs : List Range) → 0 < n .len → Rising 0 rs → Rising 0 (put n rs)
+pub put-rising : {B : Type 0} (n : Ranged B) (rs : List (Ranged B)) → 0 < n .len → Rising 0 rs → Rising 0 (put n rs)
 unfolding put
 put-rising n rs h s =
     insert-rising n 0 (carve (from n) (upto n) rs) (omega arith) h (carve-clear (from n) (upto n) rs (omega arith)) (carve-rising (from n) (upto n) 0 rs (omega arith) s)
@@ -20,7 +20,7 @@ pub put-hit : (n : Range) (g : ℕ) (rs : List Range) → from n ≤ g → g < u
 unfolding put
 put-hit n g rs l h = insert-hit n g (carve (from n) (upto n) rs) l h (carve-clear (from n) (upto n) rs (omega arith))
 
-pub put-in : (n : Range) (rs : List Range) → List·Memᴰ n (put n rs)
+pub put-in : {B : Type 0} (n : Ranged B) (rs : List (Ranged B)) → List·Memᴰ n (put n rs)
 unfolding put
 put-in n rs = insert-in n (carve (from n) (upto n) rs)
 
@@ -43,14 +43,14 @@ put-mem n q rs m =
     (λ k. inr (record { cut = carve-mem (from n) (upto n) q rs k; clear = clear-mem (from n) (upto n) q (carve (from n) (upto n) rs) (carve-clear (from n) (upto n) rs (omega arith)) k }))
     (insert-mem n q (carve (from n) (upto n) rs) m)
 
-pub whole-piece : (a e : ℕ) (r : Range) → a ≤ e → 0 < r .len → (upto r ≤ a) ⊎ (e ≤ from r) → front a r ++ back e r ≡ r ∷ []
+pub whole-piece : {B : Type 0} (a e : ℕ) (r : Ranged B) → a ≤ e → 0 < r .len → (upto r ≤ a) ⊎ (e ≤ from r) → front a r ++ back e r ≡ r ∷ []
 whole-piece a e r h l x =
     ⊎-elim
     (λ (u : upto r ≤ a). rw (front-below a r u l, back-none e r (omega arith)))
     (λ (u : e ≤ from r). let z : e - from r ≡ 0 = omega arith in rw (front-none a r (omega arith), back-some e r (omega arith), z, skip-zero r))
     x
 
-carve-keeps : (a e low : ℕ) (r : Range) (rs : List Range) → a ≤ e → Rising low rs → List·Memᴰ r rs → (upto r ≤ a) ⊎ (e ≤ from r) → List·Memᴰ r (carve a e rs)
+carve-keeps : {B : Type 0} (a e low : ℕ) (r : Ranged B) (rs : List (Ranged B)) → a ≤ e → Rising low rs → List·Memᴰ r rs → (upto r ≤ a) ⊎ (e ≤ from r) → List·Memᴰ r (carve a e rs)
 unfolding carve Rising
 carve-keeps a e low r [] h s m x = absurd (List·Memᴰ·not-nil m)
 carve-keeps a e low r (q ∷ rs) h s m x =
@@ -59,7 +59,7 @@ carve-keeps a e low r (q ∷ rs) h s m x =
     (λ k. Memᴰ·append-right (front a q ++ back e q) (carve-keeps a e (upto q) r rs h (s .2) k x))
     (List·Memᴰ·cases-cons m)
 
-insert-keeps : (n r : Range) (rs : List Range) → List·Memᴰ r rs → List·Memᴰ r (insert n rs)
+insert-keeps : {B : Type 0} (n r : Ranged B) (rs : List (Ranged B)) → List·Memᴰ r rs → List·Memᴰ r (insert n rs)
 unfolding insert
 insert-keeps n r [] m = absurd (List·Memᴰ·not-nil m)
 insert-keeps n r (q ∷ rs) m =
@@ -67,7 +67,7 @@ insert-keeps n r (q ∷ rs) m =
     (λ p. rw (insert-here n q rs p) (List·Memᴰ·tail m))
     (λ p. rw (insert-later n q rs p) (⊎-elim (λ i. List·Memᴰ·head i) (λ k. List·Memᴰ·tail (insert-keeps n r rs k)) (List·Memᴰ·cases-cons m)))
 
-pub put-keeps : (n r : Range) (rs : List Range) → Rising 0 rs → List·Memᴰ r rs → (upto r ≤ from n) ⊎ (upto n ≤ from r) → List·Memᴰ r (put n rs)
+pub put-keeps : {B : Type 0} (n r : Ranged B) (rs : List (Ranged B)) → Rising 0 rs → List·Memᴰ r rs → (upto r ≤ from n) ⊎ (upto n ≤ from r) → List·Memᴰ r (put n rs)
 unfolding put
 put-keeps n r rs s m x = insert-keeps n r (carve (from n) (upto n) rs) (carve-keeps (from n) (upto n) 0 r rs (omega arith) s m x)
 

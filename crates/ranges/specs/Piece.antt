@@ -5,7 +5,7 @@ use mathlib.Core.List.{List, [], _∷_, _++_, List·Memᴰ, List·Memᴰ·head, 
 use Prim.Native.Nat.{ℕ, _+_, _≤_, _<_}
 use native.Mathlib.Omega.{arith}
 use Rattle.lists.specs.Test.{by-lt}
-use Rattle.ranges.specs.Range.{Range, from, upto, front, back, carve, insert, Rising, Clear}
+use Rattle.ranges.specs.Range.{Range, Ranged, from, upto, front, back, carve, insert, Rising, Clear}
 use Rattle.ranges.specs.Cut.{front-some, front-none, back-some, back-none}
 use Rattle.ranges.specs.Put.{insert-here, insert-later}
 
@@ -54,7 +54,7 @@ carve-mem a e q (x ∷ rs) m =
     (λ k. cut-tail q x rs (carve-mem a e q rs k))
     (List·Memᴰ·append-cases (front a x ++ back e x) m)
 
-pub insert-mem : (n q : Range) (rs : List Range) → List·Memᴰ q (insert n rs) → (q ≡ n) ⊎ List·Memᴰ q rs
+pub insert-mem : {B : Type 0} (n q : Ranged B) (rs : List (Ranged B)) → List·Memᴰ q (insert n rs) → (q ≡ n) ⊎ List·Memᴰ q rs
 unfolding insert
 insert-mem n q [] m = List·Memᴰ·cases-cons m
 insert-mem n q (x ∷ rs) m =
@@ -65,7 +65,7 @@ insert-mem n q (x ∷ rs) m =
     (λ k. ⊎-elim (λ e. inl e) (λ l. inr (List·Memᴰ·tail l)) (insert-mem n q rs k))
     (List·Memᴰ·cases-cons (rw (insert-later n x rs p) at m)))
 
-pub insert-in : (n : Range) (rs : List Range) → List·Memᴰ n (insert n rs)
+pub insert-in : {B : Type 0} (n : Ranged B) (rs : List (Ranged B)) → List·Memᴰ n (insert n rs)
 unfolding insert
 insert-in n [] = List·Memᴰ·head refl
 insert-in n (x ∷ rs) =
@@ -74,12 +74,12 @@ insert-in n (x ∷ rs) =
     (λ p. rw (insert-later n x rs p) (List·Memᴰ·tail (insert-in n rs)))
 
 -- a member of a clear table is clear, and of a rising one has a page
-pub clear-mem : (a e : ℕ) (q : Range) (rs : List Range) → Clear a e rs → List·Memᴰ q rs → (upto q ≤ a) ⊎ (e ≤ from q)
+pub clear-mem : {B : Type 0} (a e : ℕ) (q : Ranged B) (rs : List (Ranged B)) → Clear a e rs → List·Memᴰ q rs → (upto q ≤ a) ⊎ (e ≤ from q)
 unfolding Clear
 clear-mem a e q [] c m = absurd (List·Memᴰ·not-nil m)
 clear-mem a e q (x ∷ rs) c m = ⊎-elim (λ i. rw i (c .0)) (λ k. clear-mem a e q rs (c .1) k) (List·Memᴰ·cases-cons m)
 
-pub rising-mem : (low : ℕ) (q : Range) (rs : List Range) → Rising low rs → List·Memᴰ q rs → 0 < q .len
+pub rising-mem : {B : Type 0} (low : ℕ) (q : Ranged B) (rs : List (Ranged B)) → Rising low rs → List·Memᴰ q rs → 0 < q .len
 unfolding Rising
 rising-mem low q [] s m = absurd (List·Memᴰ·not-nil m)
 rising-mem low q (x ∷ rs) s m = ⊎-elim (λ i. rw i (s .1)) (λ k. rising-mem (upto x) q rs (s .2) k) (List·Memᴰ·cases-cons m)

@@ -9,19 +9,19 @@ use native.Mathlib.Nat.{add-zero, sub-zero, not-suc-le-zero}
 use lib.ListN.{length, getD, take, drop}
 use borrow.Author.Tests.{lt-ltb, le-ltb}
 use Rattle.lists.specs.Test.{by-lt}
-use Rattle.ranges.specs.Range.{Range, from, upto, skip, front, back, carve, insert, slotIn, slotAt, Rising, Clear}
+use Rattle.ranges.specs.Range.{Range, Ranged, from, upto, skip, front, back, carve, insert, slotIn, slotAt, Rising, Clear}
 use Rattle.ranges.specs.Cut.{front-some, front-none, back-some, back-none, slot-hit, slot-low, slot-high, slot-cons, front-below, Rising-weaken}
 
-pub insert-here : (n r : Range) (rs : List Range) → from n < from r → insert n (r ∷ rs) ≡ n ∷ r ∷ rs
+pub insert-here : {B : Type 0} (n r : Ranged B) (rs : List (Ranged B)) → from n < from r → insert n (r ∷ rs) ≡ n ∷ r ∷ rs
 unfolding insert
 insert-here n r rs h = rw (lt-ltb (from n) (from r) h)
 
-pub insert-later : (n r : Range) (rs : List Range) → from r ≤ from n → insert n (r ∷ rs) ≡ r ∷ insert n rs
+pub insert-later : {B : Type 0} (n r : Ranged B) (rs : List (Ranged B)) → from r ≤ from n → insert n (r ∷ rs) ≡ r ∷ insert n rs
 unfolding insert
 insert-later n r rs h = rw (le-ltb (from n) (from r) h)
 
 -- after a cut the span is clear
-pub carve-clear : (a e : ℕ) (rs : List Range) → a ≤ e → Clear a e (carve a e rs)
+pub carve-clear : {B : Type 0} (a e : ℕ) (rs : List (Ranged B)) → a ≤ e → Clear a e (carve a e rs)
 unfolding carve Clear
 carve-clear a e [] h = tt
 carve-clear a e (r ∷ rs) h =
@@ -34,7 +34,7 @@ carve-clear a e (r ∷ rs) h =
     (λ q. rw (front-none a r p, back-some e r q) (inr (omega arith), ih))
     (λ q. rw (front-none a r p, back-none e r q) ih))
 
-pub insert-rising : (n : Range) (low : ℕ) (rs : List Range) → low ≤ from n → 0 < n .len → Clear (from n) (upto n) rs → Rising low rs → Rising low (insert n rs)
+pub insert-rising : {B : Type 0} (n : Ranged B) (low : ℕ) (rs : List (Ranged B)) → low ≤ from n → 0 < n .len → Clear (from n) (upto n) rs → Rising low rs → Rising low (insert n rs)
 unfolding Clear Rising insert
 insert-rising n low [] l k c s = (l, k, tt)
 insert-rising n low (r ∷ rs) l k c s =
@@ -67,10 +67,10 @@ insert-other n g (r ∷ rs) o =
 
 -- ---- the table's form of a cut
 
-pub skip-zero : (r : Range) → skip 0 r ≡ r
+pub skip-zero : {B : Type 0} (r : Ranged B) → skip 0 r ≡ r
 skip-zero r = simp (add-zero, sub-zero)
 
-carve-after : (a e : ℕ) (rs : List Range) → a ≤ e → Rising e rs → carve a e rs ≡ rs
+carve-after : {B : Type 0} (a e : ℕ) (rs : List (Ranged B)) → a ≤ e → Rising e rs → carve a e rs ≡ rs
 unfolding carve Rising
 carve-after a e [] h s = refl
 carve-after a e (r ∷ rs) h s =
@@ -80,15 +80,15 @@ carve-after a e (r ∷ rs) h s =
     let t : Rising e rs = Rising-weaken (upto r) e rs (omega arith) (s .2) in
     rw (front-none a r z, back-some e r y, x, skip-zero r) (ap (λ l. r ∷ l) (carve-after a e rs h t))
 
-rising-head : (d : Range) (low : ℕ) (rs : List Range) → Rising low rs → 0 < length rs → low ≤ from (getD rs 0 d)
+rising-head : {B : Type 0} (d : Ranged B) (low : ℕ) (rs : List (Ranged B)) → Rising low rs → 0 < length rs → low ≤ from (getD rs 0 d)
 unfolding Rising
 rising-head d low [] s n = absurd (not-suc-le-zero n)
 rising-head d low (r ∷ rs) s n = s .0
 
 -- `front a` of the first range that the cut meets, `back e` of the last, and nothing between
-module _ (d : Range) (a e : ℕ) (h : a < e) where
+module _ {B : Type 0} (d : Ranged B) (a e : ℕ) (h : a < e) where
   -- the ranges up to number q begin in the cut, and those after them after it
-  carve-tail : (q : ℕ) (low : ℕ) (rs : List Range) → a ≤ low → Rising low rs → q < length rs
+  carve-tail : (q : ℕ) (low : ℕ) (rs : List (Ranged B)) → a ≤ low → Rising low rs → q < length rs
       → ((i : ℕ) → i ≤ q → from (getD rs i d) < e)
       → Rising e (drop (suc q) rs)
       → carve a e rs ≡ back e (getD rs q d) ++ drop (suc q) rs
@@ -106,7 +106,7 @@ module _ (d : Range) (a e : ℕ) (h : a < e) where
       (carve-tail q (upto r) rs (omega arith) (s .2) (omega arith) (λ i j. m (suc i) (suc-le-suc j)) t)
 
   -- the first p of the ranges end by a
-  pub carve-table : (p q : ℕ) (low : ℕ) (rs : List Range) → Rising low rs → p ≤ q → q < length rs
+  pub carve-table : (p q : ℕ) (low : ℕ) (rs : List (Ranged B)) → Rising low rs → p ≤ q → q < length rs
       → ((i : ℕ) → i < p → upto (getD rs i d) ≤ a)
       → a < upto (getD rs p d)
       → ((i : ℕ) → i ≤ q → from (getD rs i d) < e)
