@@ -8,6 +8,7 @@ pub mod Need
 pub mod Book
 pub mod Needed
 pub mod File
+pub mod Presence
 pub mod Sound
 pub mod Compute
 pub mod Cases

@@ -66,10 +66,10 @@ module _ (s x o y n : ℕ) (w : Work) (G : Good w) (hs : 4096 ≤ w .size) (othe
   ps : 0 < w .size
   ps = omega arith
 
-  sum : P .head + P .whole * w .size + P .tail ≡ n
+  pub sum : P .head + P .whole * w .size + P .tail ≡ n
   sum = span-sum (w .size) x n ps
 
-  same : P ≡ spanOf (w .size) y n
+  pub same : P ≡ spanOf (w .size) y n
   same = span-same (w .size) x y n even
 
   head-fit : y % w .size + P .head ≤ w .size
@@ -78,10 +78,10 @@ module _ (s x o y n : ℕ) (w : Work) (G : Good w) (hs : 4096 ≤ w .size) (othe
   tail-fit : (y + t) % w .size + P .tail ≤ w .size
   tail-fit = rw same (tail-fits (w .size) y n ps)
 
-  p-bound : (x + P .head) / w .size + P .whole ≤ 262144
+  pub p-bound : (x + P .head) / w .size + P .whole ≤ 262144
   p-bound = whole-in (w .size) x n ps 262144 (object-in (w .size) x n hs hx)
 
-  q-bound : (y + P .head) / w .size + P .whole ≤ 262144
+  pub q-bound : (y + P .head) / w .size + P .whole ≤ 262144
   q-bound = rw same (whole-in (w .size) y n ps 262144 (object-in (w .size) y n hs hy))
 
   -- the bytes of the head, and of the tail
@@ -95,17 +95,17 @@ module _ (s x o y n : ℕ) (w : Work) (G : Good w) (hs : 4096 ≤ w .size) (othe
   abbrev v : Work
   v = sharing s ((x + P .head) / w .size) o ((y + P .head) / w .size) (P .whole) u
 
-  KU : Kept w u
+  pub KU : Kept w u
   KU = bytes-kept w G hs s x o y (P .head) w (here w G hs) (omega (arith, sum))
 
-  KV : Kept w v
+  pub KV : Kept w v
   KV = sharing-kept s ((x + P .head) / w .size) o ((y + P .head) / w .size) (P .whole) w u q-bound KU
 
-  no-middle : P .whole ≡ 0 → v ≡ u
+  pub no-middle : P .whole ≡ 0 → v ≡ u
   no-middle z = ap (λ m. sharing s ((x + P .head) / w .size) o ((y + P .head) / w .size) m u) z ∙ sharing-none s ((x + P .head) / w .size) o ((y + P .head) / w .size) u
 
   -- the head's write leaves the ranges of the source
-  beside : Beside o w u
+  pub beside : Beside o w u
   beside = writing-beside o y (reading s x (P .head) w) w G hs (omega (arith, sum, long x (P .head)))
 
   -- ---- what it takes
@@ -117,7 +117,7 @@ module _ (s x o y n : ℕ) (w : Work) (G : Good w) (hs : 4096 ≤ w .size) (othe
   abbrev tail-takes : ℕ
   tail-takes = pick (eqb (P .tail) 0) 0 (wants o pt v)
 
-  head-counts : head-takes ≤ partly P each ph (P .head)
+  pub head-counts : head-takes ≤ partly P each ph (P .head)
   head-counts = partly-least P each ph (P .head) (each ph) (wants-small o ph w) (λ _ _. le-refl _)
 
   -- the tail's page is none of those that the head touched
@@ -129,7 +129,7 @@ module _ (s x o y n : ℕ) (w : Work) (G : Good w) (hs : 4096 ≤ w .size) (othe
       (λ z. rw (eq-eqb (P .head) 0 z) (omega (arith, page-from (w .size) ph (y + t) ps (omega (arith, div-add-mod' y (w .size))))))
       (λ z. rw (ne-eqb (P .head) 0 z) (omega (arith, apart (omega arith) h))))
 
-  tail-counts : tail-takes ≤ partly P each pt (P .tail)
+  pub tail-counts : tail-takes ≤ partly P each pt (P .tail)
   tail-counts =
       partly-least P each pt (P .tail) (wants o pt v) (wants-small o pt v)
       (λ h z. omega (
@@ -138,10 +138,10 @@ module _ (s x o y n : ℕ) (w : Work) (G : Good w) (hs : 4096 ≤ w .size) (othe
         writing-wants o y (reading s x (P .head) w) w G hs (omega (arith, sum, long x (P .head))) pt (rw (long x (P .head)) (behind h)),
       ))
 
-  head-wanted : wanted (touched (w .size) y (P .head)) o ph w ≡ head-takes
+  pub head-wanted : wanted (touched (w .size) y (P .head)) o ph w ≡ head-takes
   head-wanted = wanted-one (w .size) y (P .head) ps head-fit o ph w
 
-  tail-wanted : wanted (touched (w .size) (y + t) (P .tail)) o pt v ≡ tail-takes
+  pub tail-wanted : wanted (touched (w .size) (y + t) (P .tail)) o pt v ≡ tail-takes
   tail-wanted = wanted-one (w .size) (y + t) (P .tail) ps tail-fit o pt v
 
   -- bytes of w written in a state of its size
@@ -154,7 +154,7 @@ module _ (s x o y n : ℕ) (w : Work) (G : Good w) (hs : 4096 ≤ w .size) (othe
   abbrev meets : ℕ
   meets = 2 * met s ((x + P .head) / w .size) (P .whole) w
 
-  to-v : Cost head-takes (2 * head-takes + meets) w v
+  pub to-v : Cost head-takes (2 * head-takes + meets) w v
   to-v =
       cost-sum head-takes (2 * head-takes) 0 meets head-takes (2 * head-takes + meets) w u v (omega arith) (omega arith)
       (rw head-wanted at (bytes-cost x y (P .head) w (here w G hs) (omega (arith, sum))))
@@ -179,7 +179,7 @@ module _ (s x o y n : ℕ) (w : Work) (G : Good w) (hs : 4096 ≤ w .size) (othe
     abbrev copied : ℕ → ℕ
     copied z = copiedByte w s x o y n z
 
-    split : partly P each ph (P .head) + partly P each pt (P .tail) ≤ length (w .spare)
+    pub split : partly P each ph (P .head) + partly P each pt (P .tail) ≤ length (w .spare)
     split = omega (arith, counts, enough)
 
     first : Rewrites o y (y + P .head) (λ z. byteAt s (x + (z - y)) w) w u

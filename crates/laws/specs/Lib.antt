@@ -27,3 +27,11 @@ pub mod FileLaw
 pub mod Used
 pub mod Bounds
 pub mod NoFrame
+pub mod Origin
+pub mod Numbers
+pub mod Lookup
+pub mod Adding
+pub mod PageSpan
+pub mod Presents
+pub mod PresentCopy
+pub mod PresenceLaw

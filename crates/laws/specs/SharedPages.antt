@@ -55,7 +55,7 @@ unfoldable pub Missed : ℕ → List Range → Type 0
 Missed g [] = Unit {0}
 Missed g (n ∷ ns) = ((g < from n) ⊎ (upto n ≤ g)) × Missed g ns
 
-share-ranges : (ns : List Range) (w : Work) → share ns w .ranges ≡ putAll ns (w .ranges)
+pub share-ranges : (ns : List Range) (w : Work) → share ns w .ranges ≡ putAll ns (w .ranges)
 unfolding share putAll
 share-ranges [] w = refl
 share-ranges (n ∷ ns) w = share-ranges ns (withRanges (put n (w .ranges)) w)

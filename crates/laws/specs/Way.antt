@@ -19,6 +19,7 @@ use Rattle.book.specs.Work.{isShared, joins, Work, slotBytes, pageOf, settle, s
 use Rattle.book.specs.Cell.{bytesAt}
 use Rattle.laws.specs.State.{Ordered, Tight, tight-slot}
 use Rattle.laws.specs.Settle.{page-none, page-some}
+use Rattle.laws.specs.Origin.{Origin, stayed, joined, begun}
 
 -- page p of object o is in a range that is its backing's one holder
 pub record Private (o p : ℕ) (w : Work) : Type 0 where
@@ -47,6 +48,10 @@ pub record Settles (o p : ℕ) (w : Work) (n : Range) : Type 0 where
   -- a range that is its backing's one holder lies in it with the same backing, or is clear of it with another
   pub alones : (r : Range) → List·Memᴰ r (w .ranges) → holders (r .backing) (w .ranges) ≡ 1
       → ((r .backing ≡ n .backing) × (from n ≤ from r) × (upto r ≤ upto n)) ⊎ ((r .backing ≡ n .backing → ⊥) × ((upto r ≤ from n) ⊎ (upto n ≤ from r)))
+  -- the other pages in it that were covered are at the slots that they were at
+  pub kept : (g : ℕ) (s : Slot) → from n ≤ g → g < upto n → (g ≡ line o p → ⊥) → slotAt g (w .ranges) ≡ some s → s ≡ slotIn g n
+  -- where the slots of its pages come from
+  pub origin : (g : ℕ) → from n ≤ g → g < upto n → Origin g (w .ranges) (slotIn g n)
 
 -- THE CASES: page p of object o, with the bytes x afterwards
 pub data Way (o p : ℕ) (w : Work) (x : List ℕ) : Work → Type 0 where
@@ -85,6 +90,8 @@ module _ (o p : ℕ) (w : Work) (W : Ordered w) (hp : p < 262144) where
       (λ e. unheld (fresh (w .ranges)) (w .ranges) r (fresh-unused (w .ranges)) m (sym e)),
       ⊎-elim (λ (l : g₀ < from r). inr (omega arith)) (λ (l : upto r ≤ g₀). inl l) (clear r m h),
     );
+    kept = λ g s a b ne. absurd (ne (omega arith));
+    origin = λ g a b. begun (fresh-unused (w .ranges));
   }
 
   own-way : (x : List ℕ) → ((r : Range) → List·Memᴰ r (w .ranges) → holders (r .backing) (w .ranges) ≡ 1 → (g₀ < from r) ⊎ (upto r ≤ g₀)) → Way o p w x (own o p x w)
@@ -153,6 +160,15 @@ module _ (o p : ℕ) (w : Work) (W : Ordered w) (hp : p < 262144) where
         (λ v. sym (page-some g w (slotIn g r) (slot-mem 0 g r (w .ranges) (W .rising) m a v)))
         (λ v. beyond T (slotIn g r) refl (omega arith) ∙ sym (page-none g w (gap g v b)))
 
+    over-kept : (g : ℕ) (s : Slot) → from r ≤ g → g < from r + L → slotAt g (w .ranges) ≡ some s → s ≡ slotIn g r
+    over-kept g s a b e =
+        by-lt g (upto r)
+        (λ v. some-inj s (slotIn g r) (sym e ∙ slot-mem 0 g r (w .ranges) (W .rising) m a v))
+        (λ v. absurd (none-some s (sym (gap g v b) ∙ e)))
+
+    over-origin : (g : ℕ) → from r ≤ g → g < from r + L → Origin g (w .ranges) (slotIn g r)
+    over-origin g a b = by-lt g (upto r) (λ v. stayed (slot-mem 0 g r (w .ranges) (W .rising) m a v)) (λ v. joined r m one a (gap g v b) refl)
+
     over-settles : Settles o p w (keep L r)
     over-settles = record {
       object = object;
@@ -167,6 +183,8 @@ module _ (o p : ℕ) (w : Work) (W : Ordered w) (hp : p < 262144) where
       alones = λ q n h. by-eq (q .backing) (r .backing)
           (λ e. let z : r ≡ q = the-holder q n e in inl (e, rw (← z) (le-refl (from r)), rw (← z) (omega arith)))
           (λ e. inr (e, over-clear q n e));
+      kept = λ g s a b ne. over-kept g s a b;
+      origin = over-origin;
     }
 
   -- ---- a page that no range covers is in no range

@@ -88,7 +88,7 @@ module _ (o x n : ℕ) (w : Work) (G : Good w) (hs : 4096 ≤ w .size) (h : x + 
   ps : 0 < w .size
   ps = omega arith
 
-  sum : P .head + P .whole * w .size + P .tail ≡ n
+  pub sum : P .head + P .whole * w .size + P .tail ≡ n
   sum = span-sum (w .size) x n ps
 
   -- the state after the head, and after the whole pages
@@ -101,7 +101,7 @@ module _ (o x n : ℕ) (w : Work) (G : Good w) (hs : 4096 ≤ w .size) (h : x + 
   KU : Kept w u
   KU = clear-kept w G hs o x (P .head) w (here w G hs) (head-fits (w .size) x n ps) (omega (arith, sum))
 
-  KV : Kept w v
+  pub KV : Kept w v
   KV = uncover-kept o ((x + P .head) / w .size) (P .whole) w u KU
 
   no-middle : P .whole ≡ 0 → v ≡ u
@@ -116,7 +116,7 @@ module _ (o x n : ℕ) (w : Work) (G : Good w) (hs : 4096 ≤ w .size) (h : x + 
   abbrev tail-takes : ℕ
   tail-takes = pick (eqb (P .tail) 0) 0 (common (stateOf o pt v))
 
-  head-counts : head-takes ≤ partly P each ph (P .head)
+  pub head-counts : head-takes ≤ partly P each ph (P .head)
   head-counts = partly-least P each ph (P .head) (each ph) (common-small (stateOf o ph w)) (λ _ _. le-refl _)
 
   tail-counts : tail-takes ≤ partly P each pt (P .tail)
@@ -144,7 +144,7 @@ module _ (o x n : ℕ) (w : Work) (G : Good w) (hs : 4096 ≤ w .size) (h : x + 
   -- ---- and what it leaves, with the frames that 01 counts
 
   module _ (enough : countedParts each (w .size) x n ≤ length (w .spare)) where
-    split : partly P each ph (P .head) + partly P each pt (P .tail) ≤ length (w .spare)
+    pub split : partly P each ph (P .head) + partly P each pt (P .tail) ≤ length (w .spare)
     split = unfold countedParts in enough
 
     first : Rewrites o x (x + P .head) (λ _. 0) w u
@@ -163,7 +163,7 @@ module _ (o x n : ℕ) (w : Work) (G : Good w) (hs : 4096 ≤ w .size) (h : x + 
         (uncover-zeros o q (P .whole) u (rw (KU .size) hs) (whole-in (w .size) x n ps 262144 (object-in (w .size) x n hs h))))
 
     -- the tail's frame is there, by another name of the page size
-    tail-room : (m : ℕ) → m ≡ w .size → (y : List ℕ) → pageOf (line o ((x + t) / m)) v ≡ some y → pick (eqb (P .tail) 0) 0 (wants o ((x + t) / m) v) ≤ length (v .spare)
+    pub tail-room : (m : ℕ) → m ≡ w .size → (y : List ℕ) → pageOf (line o ((x + t) / m)) v ≡ some y → pick (eqb (P .tail) 0) 0 (wants o ((x + t) / m) v) ≤ length (v .spare)
     tail-room m e = rw e (λ y d. rw (present-wants o pt v y d) (omega (arith, split, head-counts, tail-counts, to-v .spare)))
 
     last : Rewrites o (x + t) (x + n) (λ _. 0) v (clear o (x + t) (P .tail) v)

@@ -4,9 +4,12 @@ pub mod Cut
 pub mod Put
 pub mod Piece
 pub mod Find
+pub mod Search
 pub mod Over
 pub mod Hold
 pub mod Fresh
 pub mod Few
+pub mod Reback
+pub mod Around
 pub mod Parts
 pub mod Met

@@ -6,7 +6,7 @@ use Prim.Native.Nat.{ℕ, zero, suc, _+_, _-_, min, max}
 use lib.Dec.{ltb, leb, eqb}
 use lib.ListN.{length}
 use Rattle.lists.specs.Test.{pick}
-use Rattle.ranges.specs.Range.{Range, from, upto, keep, skip}
+use Rattle.ranges.specs.Range.{Range, Ranged, from, upto, keep, skip}
 
 -- "The count of an `Arc` becomes the number of ranges that hold a backing."
 unfoldable pub holders : ℕ → List Range → ℕ
@@ -29,12 +29,12 @@ unfoldable pub named : ℕ → ℕ → List Range → Bool
 named b i [] = false
 named b i (r ∷ rs) = window b i r || named b i rs
 
-abbrev pub someOr : Option Range → Range → Option Range
+abbrev pub someOr : {B : Type 0} → Option (Ranged B) → Ranged B → Option (Ranged B)
 someOr none r = some r
 someOr (some q) r = some q
 
 -- the range that covers the line's page g, or else "the previous range": the last that begins at or before g
-unfoldable pub previous : ℕ → List Range → Option Range
+unfoldable pub previous : {B : Type 0} → ℕ → List (Ranged B) → Option (Ranged B)
 previous g [] = none
 previous g (r ∷ rs) = pick (ltb g (from r)) none (someOr (previous g rs) r)
 
