@@ -1,27 +1,25 @@
 -- ADDING A PAGE: the frame handed out is the highest-numbered free one, the answer names it, and afterwards the page is in it.
 use mathlib.Core.Path.{_≡_, refl, ap, _∙_}
-use mathlib.Core.Option.{Option, none, some}
+use mathlib.Core.Option.{none, some}
 use mathlib.Core.Logic.{⊎-elim}
 use mathlib.Core.List.{List, [], _∷_, headD, tail, List·Memᴰ, List·Memᴰ·not-nil, List·Memᴰ·cases-cons}
-use Prim.Native.Nat.{ℕ, zero, suc, _+_, _-_, _≤_, _<_}
+use Prim.Native.Nat.{ℕ, zero, suc, _+_, _≤_, _<_}
 use native.Mathlib.Nat.{le-refl, not-suc-le-zero}
 use native.Mathlib.Omega.{arith}
-use lib.Dec.{leb}
 use lib.ListN.{length, getD, set, length-map}
-use borrow.Author.Tests.{eq-eqb, ltb-true}
-use Rattle.lists.specs.Test.{by-test, and-right}
-use Rattle.ranges.specs.Range.{Range, Slot, line, from, upto, keep, covers, slotIn, put, slotAt}
-use Rattle.ranges.specs.Table.{previous}
-use Rattle.ranges.specs.Find.{previous-low}
+use borrow.Author.Tests.{eq-eqb}
+use Rattle.lists.specs.Test.{by-test}
+use Rattle.ranges.specs.Range.{Slot, line, slotIn, put, slotAt}
 use Rattle.ranges.specs.Over.{put-hit}
-use Rattle.book.specs.Work.{isShared, joins, Work, next, settle, single, own, blank, addIn, addAt, addPage}
+use Rattle.book.specs.Work.{Work, next, settle, blank, addPage}
 use Rattle.book.specs.Cell.{Cell, free, holds, isAt, bytesAt, frameAt, trim, vacate}
 use Rattle.book.specs.Book.{Book, Answer, add, added, entry, perform, step, frameOf, freeFrames, frameIn}
 use Rattle.book.specs.Sound.{Sound}
 use Rattle.laws.specs.Cells.{vacate-here}
 use Rattle.laws.specs.State.{Spare, spare-room}
 use Rattle.laws.specs.Accepted.{Accepted, accepted-step, add-rows}
-use Rattle.laws.specs.Sound.{good, free-spare}
+use Rattle.laws.specs.Sound.{good, free-spare, pages-few}
+use Rattle.laws.specs.Way.{Settled, addPage-settled}
 
 -- ---- the frame that is taken
 
@@ -61,42 +59,10 @@ frame-here s x (holds b i y ∷ cs) n (suc f) h e =
     (λ t. absurd (let z : some y ≡ none = rw t at e in let u : _≡_ {A = ℕ} 0 1 = cc in omega arith))
     (λ t. rw t (frame-here s x cs (suc n) f (omega arith) (rw t at e) ∙ ap some (omega arith)))
 
--- a page added is settled in a range that contains it, with zeros in a new frame, whatever it was
-record SettledIn (o p : ℕ) (w v : Work) : Type 0 where
-  n : Range
-  low : from n ≤ line o p
-  high : line o p < upto n
-  is : v ≡ settle n (slotIn (line o p) n .index) (blank w) w
-
-own-fresh : (o p : ℕ) (w : Work) → SettledIn o p w (own o p (blank w) w)
-unfolding own
-own-fresh o p w = record {
-  n = single o p (w .ranges);
-  low = le-refl (line o p);
-  high = omega arith;
-  is = ap (λ i. settle (single o p (w .ranges)) i (blank w) w) (omega arith);
-}
-
-add-fresh : (o p : ℕ) (w : Work) → SettledIn o p w (addPage o p w)
-unfolding addPage addIn
-add-fresh o p w = go (previous (line o p) (w .ranges)) refl
-  where
-    go : (q : Option Range) → previous (line o p) (w .ranges) ≡ q → SettledIn o p w (addAt o p w q)
-    go none e = own-fresh o p w
-    go (some r) e =
-        let low : from r ≤ line o p = previous-low (line o p) (w .ranges) r e in
-        by-test (covers (line o p) r)
-        (λ c. by-test (isShared (r .backing) (w .ranges))
-        (λ t. rw (c, t) (own-fresh o p w))
-        (λ t. rw (c, t) (record { n = r; low = low; high = ltb-true (line o p) (upto r) (and-right (leb (from r) (line o p)) _ c); is = refl })))
-        (λ c. by-test (joins o p (w .ranges) r)
-        (λ t. rw (c, t) (record { n = keep (suc (line o p) - from r) r; low = low; high = omega arith; is = refl }))
-        (λ t. rw (c, t) (own-fresh o p w)))
-
 -- the page names the frame taken
-fresh-frame : (o p : ℕ) (w v : Work) → SettledIn o p w v → next w < length (w .cells) → frameIn (v .cells) (slotAt (line o p) (v .ranges)) ≡ some (next w)
+fresh-frame : (o p : ℕ) (w v : Work) → Settled o p w (blank w) v → next w < length (w .cells) → frameIn (v .cells) (slotAt (line o p) (v .ranges)) ≡ some (next w)
 unfolding settle
-fresh-frame o p w v F h = rw (F .is) (rw (put-hit (F .n) (line o p) (w .ranges) (F .low) (F .high)) (frame-here s (blank w) (vacate s cs) 0 (next w) l (vacate-here s cs) ∙ ap some (omega arith)))
+fresh-frame o p w v F h = rw (F .is) (rw (put-hit (F .n) (line o p) (w .ranges) (F .settles .low) (F .settles .high)) (frame-here s (blank w) (vacate s cs) 0 (next w) l (vacate-here s cs) ∙ ap some (omega arith)))
   where
     s : Slot
     s = slotIn (line o p) (F .n)
@@ -129,4 +95,4 @@ add-law b S o p e = rw (accepted-step b (add o p) e) (record { frame = next w; i
     one = unfold entry in spare-first (b .cells) (freeFrames b) (length (b .cells)) (free-spare (b .cells)) (add-rows b o p e .room .frames)
 
     named : frameOf (perform b (add o p) .book) o p ≡ some (next (entry b))
-    named = unfold frameOf in fresh-frame o p w (addPage o p w) (add-fresh o p w) (spare-room w (good b S .whole) (add-rows b o p e .room .frames))
+    named = unfold frameOf in fresh-frame o p w (addPage o p w) (addPage-settled o p w (good b S .whole) (omega (arith, add-rows b o p e .ends, pages-few b S))) (spare-room w (good b S .whole) (add-rows b o p e .room .frames))

@@ -1,5 +1,5 @@
 -- HOW A PAGE IS MADE PRIVATE, as one case analysis: it is present and private already, or it is settled in a range that is its backing's one holder.
-use mathlib.Core.Path.{_≡_, refl, ap, sym, _∙_, subst}
+use mathlib.Core.Path.{_≡_, refl, ap, sym, _∙_}
 use mathlib.Core.Option.{Option, none, some}
 use mathlib.Core.Logic.{_⊎_, inl, inr, ⊎-elim}
 use mathlib.Core.List.{List, List·Memᴰ}
@@ -53,6 +53,12 @@ pub record Settles (o p : ℕ) (w : Work) (n : Range) : Type 0 where
   -- where the slots of its pages come from
   pub origin : (g : ℕ) → from n ≤ g → g < upto n → Origin g (w .ranges) (slotIn g n)
 
+-- the page is settled, with the bytes x in a new frame
+pub record Settled (o p : ℕ) (w : Work) (x : List ℕ) (v : Work) : Type 0 where
+  pub n : Range
+  pub settles : Settles o p w n
+  pub is : v ≡ settle n (slotIn (line o p) n .index) x w
+
 -- THE CASES: page p of object o, with the bytes x afterwards
 pub data Way (o p : ℕ) (w : Work) (x : List ℕ) : Work → Type 0 where
   as-is : Private o p w → pageOf (line o p) w ≡ some x → Way o p w x w
@@ -94,11 +100,9 @@ module _ (o p : ℕ) (w : Work) (W : Ordered w) (hp : p < 262144) where
     origin = λ g a b. begun (fresh-unused (w .ranges));
   }
 
-  own-way : (x : List ℕ) → ((r : Range) → List·Memᴰ r (w .ranges) → holders (r .backing) (w .ranges) ≡ 1 → (g₀ < from r) ⊎ (upto r ≤ g₀)) → Way o p w x (own o p x w)
+  own-settled : (x : List ℕ) → ((r : Range) → List·Memᴰ r (w .ranges) → holders (r .backing) (w .ranges) ≡ 1 → (g₀ < from r) ⊎ (upto r ≤ g₀)) → Settled o p w x (own o p x w)
   unfolding own
-  own-way x clear =
-      let i : 0 + (g₀ - g₀) ≡ 0 = omega arith in
-      subst (λ (j : ℕ). Way o p w x (settle (single o p (w .ranges)) j x w)) i (settled (single o p (w .ranges)) (own-settles clear))
+  own-settled x clear = record { n = single o p (w .ranges); settles = own-settles clear; is = ap (λ i. settle (single o p (w .ranges)) i x w) (omega arith) }
 
   -- ---- the range r that is its backing's one holder, or that range made L pages long over uncovered pages
   module _ (r : Range) (L : ℕ) (m : List·Memᴰ r (w .ranges)) (one : holders (r .backing) (w .ranges) ≡ 1) (object : r .object ≡ o)
@@ -202,19 +206,23 @@ module _ (o p : ℕ) (w : Work) (W : Ordered w) (hp : p < 262144) where
       (λ u. absurd (let c : holders (r .backing) (w .ranges) ≡ holders (q .backing) (w .ranges) = ap (λ x. holders x (w .ranges)) (one-range g₀ r q m n l u lq uq) in omega arith))
       (λ u. inr u))
 
-  addIn-way : (r : Range) → previous g₀ (w .ranges) ≡ some r → Way o p w (blank w) (addIn o p w r)
+  addIn-settled : (r : Range) → previous g₀ (w .ranges) ≡ some r → Settled o p w (blank w) (addIn o p w r)
   unfolding addIn
-  addIn-way r e =
+  addIn-settled r e =
       let m : List·Memᴰ r (w .ranges) = previous-mem g₀ (w .ranges) r e in
       let low : from r ≤ g₀ = previous-low g₀ (w .ranges) r e in
       let k : r .start + r .len ≤ 262144 = W .within r m in
       by-test (covers g₀ r)
       (λ c. let u : g₀ < upto r = ltb-true g₀ (upto r) (and-right (leb (from r) g₀) _ c) in
       by-test (isShared (r .backing) (w .ranges))
-      (λ t. rw (c, t) (own-way (blank w) (not-alone r m low u (ltb-true _ _ t))))
+      (λ t. rw (c, t) (own-settled (blank w) (not-alone r m low u (ltb-true _ _ t))))
       (λ t. rw (c, t)
-      (settled r (over-settles r (r .len) m (held-some (r .backing) (w .ranges) r m refl (ltb-false _ _ t)) (omega arith) (le-refl (r .len)) low u k (inl m)
-      (λ g a b. absurd (omega arith))))))
+      (record {
+        n = r;
+        settles = over-settles r (r .len) m (held-some (r .backing) (w .ranges) r m refl (ltb-false _ _ t)) (omega arith) (le-refl (r .len)) low u k (inl m)
+            (λ g a b. absurd (omega arith));
+        is = refl;
+      })))
       (λ c. let u : upto r ≤ g₀ = ltb-false g₀ (upto r) (rw (le-leb (from r) g₀ low) at c) in
       by-test (joins o p (w .ranges) r)
       (λ t. let L : ℕ = suc g₀ - from r in
@@ -223,18 +231,28 @@ module _ (o p : ℕ) (w : Work) (W : Ordered w) (hp : p < 262144) where
       let ob : r .object ≡ o = eqb-true (r .object) o (and-left _ _ t) in
       let ix : r .offset + L ≤ 1048576 = leb-true _ 1048576 (and-right (leb (suc g₀ - upto r) 16) _ t₂) in
       rw (c, t)
-      (settled (keep L r) (over-settles r L m (eqb-true _ 1 (and-left _ _ t₁)) ob (omega arith) low (omega arith) (omega arith) (inr (omega arith, ix))
-      (λ g a b. previous-gap 0 g₀ g r (w .ranges) (W .rising) e a (omega arith)))))
-      (λ t. rw (c, t) (own-way (blank w) (λ q n _. not-in (previous-gap 0 g₀ g₀ r (w .ranges) (W .rising) e u (le-refl g₀)) q n))))
+      (record {
+        n = keep L r;
+        settles = over-settles r L m (eqb-true _ 1 (and-left _ _ t₁)) ob (omega arith) low (omega arith) (omega arith) (inr (omega arith, ix))
+            (λ g a b. previous-gap 0 g₀ g r (w .ranges) (W .rising) e a (omega arith));
+        is = refl;
+      }))
+      (λ t. rw (c, t) (own-settled (blank w) (λ q n _. not-in (previous-gap 0 g₀ g₀ r (w .ranges) (W .rising) e u (le-refl g₀)) q n))))
 
-  -- A PAGE ADDED
-  pub addPage-way : Way o p w (blank w) (addPage o p w)
+  -- A PAGE ADDED is settled, whatever it was
+  pub addPage-settled : Settled o p w (blank w) (addPage o p w)
   unfolding addPage
-  addPage-way = go (previous g₀ (w .ranges)) refl
+  addPage-settled = go (previous g₀ (w .ranges)) refl
     where
-      go : (q : Option Range) → previous g₀ (w .ranges) ≡ q → Way o p w (blank w) (addAt o p w q)
-      go none e = own-way (blank w) (λ q n _. not-in (previous-none 0 g₀ g₀ (w .ranges) (W .rising) e (le-refl g₀)) q n)
-      go (some r) e = addIn-way r e
+      go : (q : Option Range) → previous g₀ (w .ranges) ≡ q → Settled o p w (blank w) (addAt o p w q)
+      go none e = own-settled (blank w) (λ q n _. not-in (previous-none 0 g₀ g₀ (w .ranges) (W .rising) e (le-refl g₀)) q n)
+      go (some r) e = addIn-settled r e
+
+  settled-way : (x : List ℕ) (v : Work) → Settled o p w x v → Way o p w x v
+  settled-way x v S = rw (S .is) (settled (S .n) (S .settles))
+
+  pub addPage-way : Way o p w (blank w) (addPage o p w)
+  addPage-way = settled-way (blank w) (addPage o p w) addPage-settled
 
   -- A PAGE MADE WRITABLE
   pub writable-way : Way o p w (seen (w .size) (pageOf g₀ w)) (writable o p w)
@@ -250,7 +268,7 @@ module _ (o p : ℕ) (w : Work) (W : Ordered w) (hp : p < 262144) where
           let F : Found g₀ (w .ranges) s = found g₀ (w .ranges) s e in
           let b : s .inside ≡ F .r .backing = ap (λ x. x .inside) (F .is) in
           by-test (isShared (s .inside) (w .ranges))
-          (λ t. rw t (own-way y (not-alone (F .r) (F .mem) (F .low) (F .high) (rw (← b) (ltb-true _ _ t)))))
+          (λ t. rw t (settled-way y _ (own-settled y (not-alone (F .r) (F .mem) (F .low) (F .high) (rw (← b) (ltb-true _ _ t))))))
           (λ t. let k : F .r .start + F .r .len ≤ 262144 = W .within (F .r) (F .mem) in
           rw t (as-is (record {
             r = F .r;
