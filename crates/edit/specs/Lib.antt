@@ -1,0 +1,3 @@
+pub mod Edit
+pub mod Splice
+pub mod Edits

@@ -1,0 +1,102 @@
+use Rattle.table.specs.Searching.{low-more, high-more, starts-found}
+use borrow.Author.Count.{below-none}
+use Rattle.table.specs.Table.{ranged, zeroRange, Table}
+use Rattle.ranges.specs.Range.{from, upto}
+use lib.ListN.{length, getD, take}
+use Prim.Native.Nat.{ℕ, suc, _+_, _-_, _*_, _/_, _≤_, _<_}
+use mathlib.Core.Path.{_≡_, refl, ap, sym, _∙_}
+use borrow.Author.Needs.{needs}
+use native.Mathlib.Omega.{arith}
+use Rattle.table.proofs.starts_before.Statement.{statement}
+use Rattle.table.proofs.starts_before.Tie as tie
+use Rattle.table.proofs.starts_before.Reads as reads
+use Rattle.table.proofs.starts_before.Lts as lts
+use Rattle.table.proofs.PageRange.first.Reads as first-reads
+
+abbrev Inv-loop : tie.InvT-loop
+Inv-loop count g ranges lo₀ hi₀ lo hi = (lo ≤ hi) × (hi ≤ count) × ((k : ℕ) → k < lo → from (ranged (getD ranges k zeroRange)) < g)
+    × ((k : ℕ) → hi ≤ k → k < count → g ≤ from (ranged (getD ranges k zeroRange)))
+
+abbrev μ-loop : tie.MeasureT-loop
+μ-loop count g ranges lo₀ hi₀ lo hi = hi - lo
+
+loop-holds : tie.Need-loop-holds Inv-loop μ-loop
+loop-holds c = (search needs, search needs, below-none _, (λ k l h. absurd (omega arith)))
+
+sub-mid : tie.Need-sub-mid Inv-loop μ-loop
+sub-mid c = search needs
+
+add-mid : tie.Need-add-mid Inv-loop μ-loop
+add-mid c = search needs
+
+mul-r : tie.Need-mul-r Inv-loop μ-loop
+mul-r c = let h = c .before .before .pre .few in omega arith
+
+array-copy-out-r : tie.Need-array-copy-out-r Inv-loop μ-loop
+array-copy-out-r c = let h = c .before .before .pre .few in omega arith
+
+first-requires : tie.Need-first-requires Inv-loop μ-loop
+first-requires c κs =
+    let a = c .before .before .before .args in
+    let l = c .before .before .loop in
+    c .before .before .before .pre .small (l .lo + (l .hi - l .lo) / 2) (omega arith)
+
+add-lo : tie.Need-add-lo Inv-loop μ-loop
+add-lo c = search needs
+
+loop-less : tie.Need-loop-less Inv-loop μ-loop
+loop-less c = search needs
+
+loop-again : tie.Need-loop-again Inv-loop μ-loop
+loop-again c =
+    let a = c .before .before .before .before .before .args in
+    let l = c .before .before .before .before .loop in
+    let m : ℕ = l .lo + (l .hi - l .lo) / 2 in
+    let f = c .before .first .ensures in
+    let t = c .if1 .taken in (
+      omega arith,
+      omega arith,
+      low-more (a .t1) (a .count) (c .before .before .before .before .before .pre) (a .g) m (omega arith) (omega arith),
+      l .inv .3,
+    )
+
+loop-less-2 : tie.Need-loop-less-2 Inv-loop μ-loop
+loop-less-2 c = search needs
+
+loop-again-2 : tie.Need-loop-again-2 Inv-loop μ-loop
+loop-again-2 c =
+    let a = c .before .before .before .before .before .args in
+    let l = c .before .before .before .before .loop in
+    let m : ℕ = l .lo + (l .hi - l .lo) / 2 in
+    let f = c .before .first .ensures in
+    let t = c .if1 .left in (
+      omega arith,
+      omega arith,
+      l .inv .2,
+      high-more (a .t1) (a .count) (c .before .before .before .before .before .pre) (a .g) m (omega arith),
+    )
+
+returns : tie.Need-returns Inv-loop μ-loop
+returns c =
+    let a = c .before .before .args in
+    let l = c .before .loop in
+    starts-found (a .t1) (a .count) (c .before .before .pre) (a .g) (l .lo) (omega arith) (l .inv .2) (λ k h m. l .inv .3 k (omega arith) m)
+
+pub starts-before-spec : {M : Type 1} → statement M
+starts-before-spec =
+    tie.close
+    (tie.spec
+    Inv-loop
+    μ-loop
+    loop-holds
+    sub-mid
+    add-mid
+    mul-r
+    array-copy-out-r
+    first-requires
+    add-lo
+    loop-less
+    loop-again
+    loop-less-2
+    loop-again-2
+    returns)

@@ -1,0 +1,4 @@
+pub mod Table
+pub mod Pieces
+pub mod Searching
+pub mod Holding

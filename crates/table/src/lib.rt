@@ -1,0 +1,277 @@
+use page::PageNumber;
+ghost use mathlib.Core.Path.{_≡_};
+ghost use mathlib.Core.List.{_++_, _∷_, [], map};
+ghost use Prim.Native.Nat.{ℕ, _+_, _-_, _*_, _≤_, _<_, suc};
+ghost use lib.ListN.{take};
+ghost use Rattle.ranges.specs.Range.{line, from, upto, front, back, covers, splitAt};
+ghost use Rattle.ranges.specs.Search.{startsBefore, endsBy};
+ghost use Rattle.ranges.specs.Table.{holders, fresh};
+ghost use Rattle.table.specs.Table.{numberOf, ranged, rangesOf, rangedOf, zeroRange, Small, Table, partsOf, Cut, coveringAt};
+
+// What keeps the pages of a range, with the backing's number. "Between two calls `Nothing` stands only in unused slots."
+pub enum BackingPages {
+    Nothing,
+    Single(u32),
+    Many(u32),
+}
+
+// Pages of an object from `start` on, kept in a backing from index `offset` on.
+pub struct PageRange {
+    pub object: u32,
+    pub start: PageNumber,
+    pub length: u32,
+    pub offset: u32,
+    pub backing: BackingPages,
+}
+
+// The number of a backing, or 0.
+pub fn number(b: BackingPages) -> u32
+    ensures { λ r. ⌜ r ≡ numberOf b ⌝ }
+{
+    match b {
+        BackingPages::Nothing => 0,
+        BackingPages::Single(n) => n,
+        BackingPages::Many(n) => n,
+    }
+}
+
+// "unused slots are zero"
+pub fn zero_range() -> PageRange
+    ensures { λ r. ⌜ r ≡ zeroRange ⌝ }
+{
+    PageRange {
+        object: 0,
+        start: PageNumber(0),
+        length: 0,
+        offset: 0,
+        backing: BackingPages::Nothing,
+    }
+}
+
+// The place of a page on the line of all pages.
+pub fn line_of(object: u32, page: PageNumber) -> usize
+    requires { ⌜ page .0 ≤ 262144 ⌝ }
+    ensures { λ r. ⌜ r ≡ line object (page .0) ⌝ }
+{
+    (object as usize) * PageNumber::COUNT + page.0
+}
+
+impl PageRange {
+    // A range of the same object and backing.
+    pub fn new_from(self, start: PageNumber, offset: u32, length: u32) -> PageRange
+        ensures { λ r. ⌜ r ≡ record { object = self .object; start = start; length = length; offset = offset; backing = self .backing } ⌝ }
+    {
+        let b = self.backing;
+        PageRange {
+            object: self.object,
+            start,
+            length,
+            offset,
+            backing: b,
+        }
+    }
+
+    // Where the range begins on the line.
+    pub fn first(self) -> usize
+        requires { ⌜ Small self ⌝ }
+        ensures { λ r. ⌜ r ≡ from (ranged self) ⌝ }
+    {
+        (self.object as usize) * PageNumber::COUNT + self.start.0
+    }
+
+    // Where it ends, exclusive.
+    pub fn end(self) -> usize
+        requires { ⌜ Small self ⌝ }
+        ensures { λ r. ⌜ r ≡ upto (ranged self) ⌝ }
+    {
+        (self.object as usize) * PageNumber::COUNT + self.start.0 + (self.length as usize)
+    }
+}
+
+// A part of a range, or none.
+pub enum Piece {
+    Empty,
+    Part(PageRange),
+}
+
+// What is left of a range where the pages from a up to e of the line are cut out.
+pub struct Pieces {
+    pub before: Piece,
+    pub after: Piece,
+}
+
+// A range cut around one page.
+pub struct Around {
+    pub before: Piece,
+    pub page: PageRange,
+    pub after: Piece,
+}
+
+// The part of a range before page a of the line.
+pub fn front_of(r: PageRange, a: usize) -> Piece
+    requires { ⌜ Small r ⌝ }
+    ensures { λ q. ⌜ partsOf q ≡ front a (ranged r) ⌝ }
+{
+    let s = r.first();
+    if a <= s {
+        return Piece::Empty;
+    }
+    let e = r.end();
+    if e <= a {
+        return Piece::Part(r);
+    }
+    let n = (a - s) as u32;
+    let start = r.start;
+    Piece::Part(r.new_from(start, r.offset, n))
+}
+
+// The part of a range from page e of the line on.
+pub fn back_of(r: PageRange, e: usize) -> Piece
+    requires { ⌜ Small r ⌝ }
+    ensures { λ q. ⌜ partsOf q ≡ back e (ranged r) ⌝ }
+{
+    let t = r.end();
+    if t <= e {
+        return Piece::Empty;
+    }
+    let s = r.first();
+    if e <= s {
+        return Piece::Part(r);
+    }
+    let k = e - s;
+    let n = k as u32;
+    let start = r.start;
+    let first = start.offset(k);
+    let index = r.offset + n;
+    Piece::Part(r.new_from(first, index, r.length - n))
+}
+
+// The parts of a range before page a and from page e of the line on.
+pub fn split_range(r: PageRange, a: usize, e: usize) -> Pieces
+    requires { ⌜ Small r ⌝ }
+    ensures { λ q. ⌜ Cut q a e (ranged r) ⌝ }
+{
+    let before = front_of(r, a);
+    let after = back_of(r, e);
+    Pieces { before, after }
+}
+
+// A range cut before and after page g of the line, which is in it.
+pub fn split_at(r: PageRange, g: usize) -> Around
+    requires { ⌜ (Small r) × (from (ranged r) ≤ g) × (g < upto (ranged r)) ⌝ }
+    ensures { λ q. ⌜ partsOf (q .before) ++ (ranged (q .page) ∷ []) ++ partsOf (q .after) ≡ splitAt g (ranged r) ⌝ }
+{
+    let before = front_of(r, g);
+    let after = back_of(r, g + 1);
+    let s = r.first();
+    let k = g - s;
+    let n = k as u32;
+    let start = r.start;
+    let page = r.new_from(start.offset(k), r.offset + n, 1);
+    Around {
+        before,
+        page,
+        after,
+    }
+}
+
+// The place of a range in a table, or none.
+pub enum Found {
+    At(usize),
+    Missing,
+}
+
+// How many ranges of the table begin before page g of the line, by halving.
+pub fn starts_before(ranges: [PageRange; 512], count: usize, g: usize) -> usize
+    requires { ⌜ Table ranges count ⌝ }
+    ensures { λ r. ⌜ r ≡ startsBefore g (rangedOf (take count ranges)) ⌝ }
+{
+    let mut lo: usize = 0;
+    let mut hi: usize = count;
+    while lo < hi {
+        let mid = lo + (hi - lo) / 2;
+        let r = ranges[mid];
+        let s = r.first();
+        if s < g {
+            lo = mid + 1;
+            continue;
+        }
+        hi = mid;
+    }
+    lo
+}
+
+// How many of the table's first ranges end by page a of the line.
+pub fn ends_by(ranges: [PageRange; 512], count: usize, a: usize) -> usize
+    requires { ⌜ Table ranges count ⌝ }
+    ensures { λ r. ⌜ r ≡ endsBy a (rangedOf (take count ranges)) ⌝ }
+{
+    let n = starts_before(ranges, count, a);
+    if n == 0 {
+        return 0;
+    }
+    let i = n - 1;
+    let r = ranges[i];
+    let e = r.end();
+    if a < e {
+        return i;
+    }
+    n
+}
+
+// The place of the range that covers page g of the line.
+pub fn covering(ranges: [PageRange; 512], count: usize, g: usize) -> Found
+    requires { ⌜ (Table ranges count) × (g < 1000000000000000000) ⌝ }
+    ensures { λ r. ⌜ r ≡ coveringAt g (rangedOf (take count ranges)) ⌝ }
+{
+    let n = starts_before(ranges, count, g + 1);
+    if n == 0 {
+        return Found::Missing;
+    }
+    let i = n - 1;
+    let r = ranges[i];
+    let e = r.end();
+    if g < e {
+        return Found::At(i);
+    }
+    Found::Missing
+}
+
+// How many ranges of the table hold a backing.
+pub fn holder_count(ranges: [PageRange; 512], count: usize, b: u32) -> usize
+    requires { ⌜ count ≤ 512 ⌝ }
+    ensures { λ r. ⌜ r ≡ holders b (rangesOf (take count ranges)) ⌝ }
+{
+    let mut n: usize = 0;
+    let mut i: usize = 0;
+    while i < count {
+        let r = ranges[i];
+        let k = r.backing;
+        let m = number(k);
+        if b == m {
+            n += 1;
+            i += 1;
+            continue;
+        }
+        i += 1;
+    }
+    n
+}
+
+// The smallest positive number that no range of the table holds.
+pub fn fresh_number(ranges: [PageRange; 512], count: usize) -> u32
+    requires { ⌜ count ≤ 512 ⌝ }
+    ensures { λ r. ⌜ r ≡ fresh (rangesOf (take count ranges)) ⌝ }
+{
+    let mut n: u32 = 1;
+    let mut k: usize = count;
+    while 0 < k {
+        let h = holder_count(ranges, count, n);
+        if h == 0 {
+            return n;
+        }
+        n += 1;
+        k -= 1;
+    }
+    n
+}
