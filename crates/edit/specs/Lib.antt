@@ -1,3 +1,4 @@
 pub mod Edit
 pub mod Splice
 pub mod Edits
+pub mod Keeps

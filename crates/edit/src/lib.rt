@@ -10,7 +10,7 @@ ghost use Prim.Native.Nat.{ℕ, _+_, _-_, _≤_, _<_};
 ghost use lib.ListN.{length, take, drop};
 ghost use lib.Seq.{paste};
 ghost use Rattle.table.specs.Table.{ranged, rangedOf, Small, Table, partsOf};
-ghost use Rattle.edit.specs.Edit.{spliced, putTable, cutTable};
+ghost use Rattle.edit.specs.Edit.{spliced, tabled, putTable, cutTable};
 
 // The n ranges of src from index `from`, stored in out from index `at`.
 fn pasted(
@@ -70,6 +70,17 @@ pub fn splice(
 pub struct RangeTable {
     pub ranges: [PageRange; 512],
     pub count: usize,
+}
+
+// A table with no range.
+pub fn empty_table() -> RangeTable
+    ensures { λ r. ⌜ (r ≡ tabled []) × (Table (r .ranges) (r .count)) ⌝ }
+{
+    let z = zero_range();
+    RangeTable {
+        ranges: [z; 512],
+        count: 0,
+    }
 }
 
 // Up to three ranges.
@@ -138,7 +149,7 @@ fn both(before: Piece, after: Piece) -> Few
 // The table with a range put over its span, whatever was there.
 pub fn put_range(ranges: [PageRange; 512], count: usize, n: PageRange) -> RangeTable
     requires { ⌜ (Table ranges count) × (Small n) × (0 < n .length) × (count + 2 ≤ 512) ⌝ }
-    ensures { λ r. ⌜ r ≡ putTable ranges count n ⌝ }
+    ensures { λ r. ⌜ (r ≡ putTable ranges count n) × (Table (r .ranges) (r .count)) × (r .count ≤ count + 2) ⌝ }
 {
     let a = n.first();
     let e = n.end();
@@ -172,7 +183,7 @@ pub fn put_range(ranges: [PageRange; 512], count: usize, n: PageRange) -> RangeT
 // The table with the pages from a up to e of the line cut out.
 pub fn cut_range(ranges: [PageRange; 512], count: usize, a: usize, e: usize) -> RangeTable
     requires { ⌜ (Table ranges count) × (a < e) × (count + 1 ≤ 512) ⌝ }
-    ensures { λ r. ⌜ r ≡ cutTable ranges count a e ⌝ }
+    ensures { λ r. ⌜ (r ≡ cutTable ranges count a e) × (Table (r .ranges) (r .count)) × (r .count ≤ count + 1) ⌝ }
 {
     let p = ends_by(ranges, count, a);
     let q = starts_before(ranges, count, e);

@@ -4,3 +4,4 @@ pub mod Mapped
 pub mod Listed
 pub mod Every
 pub mod Rest
+pub mod Part

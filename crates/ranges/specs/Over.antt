@@ -32,11 +32,11 @@ put-other n g rs o =
     ∙ ⊎-elim (λ h. carve-below (from n) (upto n) g rs (omega arith) h) (λ h. carve-above (from n) (upto n) g rs (omega arith) h) o
 
 -- a member of the table after a put: the range put in, or a piece of an old one, clear of it
-pub record Rest (n q : Range) (rs : List Range) : Type 0 where
+pub record Rest {B : Type 0} (n q : Ranged B) (rs : List (Ranged B)) : Type 0 where
   pub cut : Cut q rs
   pub clear : (upto q ≤ from n) ⊎ (upto n ≤ from q)
 
-pub put-mem : (n q : Range) (rs : List Range) → List·Memᴰ q (put n rs) → (q ≡ n) ⊎ Rest n q rs
+pub put-mem : {B : Type 0} (n q : Ranged B) (rs : List (Ranged B)) → List·Memᴰ q (put n rs) → (q ≡ n) ⊎ Rest n q rs
 unfolding put
 put-mem n q rs m =
     ⊎-elim (λ e. inl e)
@@ -72,11 +72,11 @@ unfolding put
 put-keeps n r rs s m x = insert-keeps n r (carve (from n) (upto n) rs) (carve-keeps (from n) (upto n) 0 r rs (omega arith) s m x)
 
 -- what holds of every range of a table and of every piece of one holds after a cut; and after a put, if it holds of the range put in
-pub carve-all : {P : Range → Type 0} → ((q r : Range) → Piece q r → P r → P q) → (a e : ℕ) (rs : List Range)
-    → ((r : Range) → List·Memᴰ r rs → P r) → (q : Range) → List·Memᴰ q (carve a e rs) → P q
+pub carve-all : {B : Type 0} {P : Ranged B → Type 0} → ((q r : Ranged B) → Piece q r → P r → P q) → (a e : ℕ) (rs : List (Ranged B))
+    → ((r : Ranged B) → List·Memᴰ r rs → P r) → (q : Ranged B) → List·Memᴰ q (carve a e rs) → P q
 carve-all piece a e rs h q m = let C : Cut q rs = carve-mem a e q rs m in piece q (C .r) (C .piece) (h (C .r) (C .mem))
 
-pub put-all : {P : Range → Type 0} → ((q r : Range) → Piece q r → P r → P q) → (n : Range) (rs : List Range)
-    → P n → ((r : Range) → List·Memᴰ r rs → P r) → (q : Range) → List·Memᴰ q (put n rs) → P q
-put-all {P} piece n rs hn h q m =
+pub put-all : {B : Type 0} {P : Ranged B → Type 0} → ((q r : Ranged B) → Piece q r → P r → P q) → (n : Ranged B) (rs : List (Ranged B))
+    → P n → ((r : Ranged B) → List·Memᴰ r rs → P r) → (q : Ranged B) → List·Memᴰ q (put n rs) → P q
+put-all {B} {P} piece n rs hn h q m =
     ⊎-elim (λ e. rw e hn) (λ (R : Rest n q rs). piece q (R .cut .r) (R .cut .piece) (h (R .cut .r) (R .cut .mem))) (put-mem n q rs m)

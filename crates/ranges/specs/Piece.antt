@@ -10,7 +10,7 @@ use Rattle.ranges.specs.Cut.{front-some, front-none, back-some, back-non
 use Rattle.ranges.specs.Put.{insert-here, insert-later}
 
 -- q is a piece of r: of its object and backing, no page and no index that r has not
-pub record Piece (q r : Range) : Type 0 where
+pub record Piece {B : Type 0} (q r : Ranged B) : Type 0 where
   pub object : q .object ≡ r .object
   pub backing : q .backing ≡ r .backing
   pub first : r .start ≤ q .start
@@ -18,15 +18,15 @@ pub record Piece (q r : Range) : Type 0 where
   pub shift : q .offset + r .start ≡ r .offset + q .start
 
 -- a member of the cut table, as a piece of a member of the table
-pub record Cut (q : Range) (rs : List Range) : Type 0 where
-  pub r : Range
+pub record Cut {B : Type 0} (q : Ranged B) (rs : List (Ranged B)) : Type 0 where
+  pub r : Ranged B
   pub mem : List·Memᴰ r rs
   pub piece : Piece q r
 
-cut-tail : (q x : Range) (rs : List Range) → Cut q rs → Cut q (x ∷ rs)
+cut-tail : {B : Type 0} (q x : Ranged B) (rs : List (Ranged B)) → Cut q rs → Cut q (x ∷ rs)
 cut-tail q x rs c = record { r = c .r; mem = List·Memᴰ·tail (c .mem); piece = c .piece }
 
-piece-front : (a : ℕ) (q r : Range) → List·Memᴰ q (front a r) → Piece q r
+piece-front : {B : Type 0} (a : ℕ) (q r : Ranged B) → List·Memᴰ q (front a r) → Piece q r
 piece-front a q r m =
     by-lt (from r) a
     (λ p. ⊎-elim
@@ -36,7 +36,7 @@ piece-front a q r m =
     (λ p. absurd (List·Memᴰ·not-nil (rw (front-none a r p) at m)))
 
 -- what is behind the cut: it has pages only if the range has some
-piece-back : (e : ℕ) (q r : Range) → List·Memᴰ q (back e r) → Piece q r
+piece-back : {B : Type 0} (e : ℕ) (q r : Ranged B) → List·Memᴰ q (back e r) → Piece q r
 piece-back e q r m =
     by-lt e (upto r)
     (λ p. ⊎-elim
@@ -45,7 +45,7 @@ piece-back e q r m =
     (List·Memᴰ·cases-cons (rw (back-some e r p) at m)))
     (λ p. absurd (List·Memᴰ·not-nil (rw (back-none e r p) at m)))
 
-pub carve-mem : (a e : ℕ) (q : Range) (rs : List Range) → List·Memᴰ q (carve a e rs) → Cut q rs
+pub carve-mem : {B : Type 0} (a e : ℕ) (q : Ranged B) (rs : List (Ranged B)) → List·Memᴰ q (carve a e rs) → Cut q rs
 unfolding carve
 carve-mem a e q [] m = absurd (List·Memᴰ·not-nil m)
 carve-mem a e q (x ∷ rs) m =

@@ -1,3 +1,4 @@
+use Rattle.edit.specs.Keeps.{cut-keeps}
 use Rattle.edit.specs.Edits.{met-order, cut-met, cut-none}
 use Rattle.table.specs.Table.{ranged, rangedOf, zeroRange, partsOf}
 use Rattle.ranges.specs.Search.{startsBefore, endsBy}
@@ -202,8 +203,11 @@ returns c =
     let f = T .few in
     let t = c .before .before .before .before .before .before .before .if1 .taken in
     let m = c .before .before .both .ensures in
+    let e =
     cut-met (a .t1) (a .count) T (a .a) (a .e) p q (P .1) ep eq (take (c .before .before .both .result .count) (c .before .before .both .result .items)) (c .splice .result) (c .before .before .both .result .count) _ _ _ (omega arith)
-    (length-take-le (c .before .before .both .result .count) (c .before .before .both .result .items) (omega (arith, m))) (m .2) (c .before .before .before .before .split-range .ensures .before) (c .before .before .before .split-range2 .ensures .after) (c .splice .ensures) refl
+    (length-take-le (c .before .before .both .result .count) (c .before .before .both .result .items) (omega (arith, m))) (m .2) (c .before .before .before .before .split-range .ensures .before) (c .before .before .before .split-range2 .ensures .after) (c .splice .ensures) refl in
+    let k = cut-keeps (a .t1) (a .count) T (a .a) (a .e) (P .1) (P .2) _ e in
+    (e, k .0, k .1)
 
 zero-range-requires : tie.Need-zero-range-requires
 zero-range-requires c κs = search needs
@@ -235,7 +239,10 @@ returns-2 c =
     let o = met-order (a .t1) (a .count) T (a .a) (a .e) p q (P .1) ep eq in
     let f = T .few in
     let t = c .before .before .if1 .left in
-    cut-none (a .t1) (a .count) T (a .a) (a .e) p q (P .1) ep eq _ (c .splice2 .result) (omega arith) refl (c .splice2 .ensures)
+    let e =
+    cut-none (a .t1) (a .count) T (a .a) (a .e) p q (P .1) ep eq _ (c .splice2 .result) (omega arith) refl (c .splice2 .ensures) in
+    let k = cut-keeps (a .t1) (a .count) T (a .a) (a .e) (P .1) (P .2) _ e in
+    (e, k .0, k .1)
 
 pub cut-range-spec : {M : Type 1} → statement M
 cut-range-spec =

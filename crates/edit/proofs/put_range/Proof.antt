@@ -1,3 +1,4 @@
+use Rattle.edit.specs.Keeps.{put-keeps}
 use Rattle.ranges.specs.Range.{front, back}
 use Rattle.edit.specs.Edits.{met-order, put-met, put-none}
 use Rattle.table.specs.Table.{ranged, rangedOf, zeroRange, partsOf}
@@ -234,8 +235,11 @@ returns c =
     let f = T .few in
     let t = c .before .before .before .before .before .before .before .if1 .taken in
     let m = c .before .before .between .ensures in
+    let e =
     put-met (a .t1) (a .count) T (a .n) p q (P .2) ep eq (take (c .before .before .between .result .count) (c .before .before .between .result .items)) (c .splice .result) (c .before .before .between .result .count) _ _ _ (omega arith)
-    (length-take-le (c .before .before .between .result .count) (c .before .before .between .result .items) (omega (arith, m))) (m .2) (c .before .before .before .before .split-range .ensures .before ∙ ap (λ (k : ℕ). front k (ranged (getD (a .t1) p zeroRange))) ef) (c .before .before .before .split-range2 .ensures .after ∙ ap (λ (k : ℕ). back k (ranged (getD (a .t1) (q - 1) zeroRange))) ee) (c .splice .ensures) refl
+    (length-take-le (c .before .before .between .result .count) (c .before .before .between .result .items) (omega (arith, m))) (m .2) (c .before .before .before .before .split-range .ensures .before ∙ ap (λ (k : ℕ). front k (ranged (getD (a .t1) p zeroRange))) ef) (c .before .before .before .split-range2 .ensures .after ∙ ap (λ (k : ℕ). back k (ranged (getD (a .t1) (q - 1) zeroRange))) ee) (c .splice .ensures) refl in
+    let k = put-keeps (a .t1) (a .count) T (a .n) (P .1) (P .2) (P .3) _ e in
+    (e, k .0, k .1)
 
 splice-requires-2 : tie.Need-splice-requires-2
 splice-requires-2 c κs =
@@ -271,7 +275,10 @@ returns-2 c =
     let o = met-order (a .t1) (a .count) T (from (ranged (a .n))) (upto (ranged (a .n))) p q (omega arith) ep eq in
     let f = T .few in
     let t = c .before .if1 .left in
-    put-none (a .t1) (a .count) T (a .n) p q (P .2) ep eq _ (c .splice2 .result) _ (omega arith) refl (c .splice2 .ensures) refl
+    let e =
+    put-none (a .t1) (a .count) T (a .n) p q (P .2) ep eq _ (c .splice2 .result) _ (omega arith) refl (c .splice2 .ensures) refl in
+    let k = put-keeps (a .t1) (a .count) T (a .n) (P .1) (P .2) (P .3) _ e in
+    (e, k .0, k .1)
 
 pub put-range-spec : {M : Type 1} → statement M
 put-range-spec =

@@ -1,0 +1,4 @@
+pub mod Free
+pub mod Bits
+pub mod Spare
+pub mod Count
