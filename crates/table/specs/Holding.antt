@@ -10,9 +10,10 @@ use lib.Seq.{length-take-le}
 use borrow.Author.Tests.{eq-eqb, ne-eqb}
 use Rattle.lists.specs.Rest.{left-cons, left-end}
 use Rattle.ranges.specs.Range.{Range}
-use Rattle.ranges.specs.Table.{holders, fresh, freshFrom}
+use Rattle.ranges.specs.Table.{holders, fresh, freshFrom, window, named}
+use mathlib.Core.Bool.{true, false}
 use Rattle.table.specs.declared.PageRange.{PageRange}
-use Rattle.table.specs.Table.{numberOf, rangesOf, zeroRange}
+use Rattle.table.specs.Table.{numberOf, rangeOf, rangesOf, zeroRange}
 
 -- the ranges from number i on, of the first `count`
 abbrev pub left : List PageRange → ℕ → ℕ → List Range
@@ -54,3 +55,17 @@ module _ (rs : List Range) where
 pub ranges-length : (R : List PageRange) (count : ℕ) → count ≤ length R → length (rangesOf (take count R)) ≡ count
 unfolding rangesOf
 ranges-length R count l = length-map (take count R) _ ∙ length-take-le count R l
+
+-- windows, from what the loop knows
+module _ (R : List PageRange) (count : ℕ) (l : count ≤ length R) (b i : ℕ) where
+  pub window-miss : (k : ℕ) → k < count → window b i (rangeOf (getD R k zeroRange)) ≡ false → named b i (left R count k) ≡ named b i (left R count (k + 1))
+  unfolding rangesOf named
+  window-miss k h e = rw (left-cons count R k zeroRange h l, e)
+
+  pub window-hit : (k : ℕ) → k < count → window b i (rangeOf (getD R k zeroRange)) ≡ true → named b i (left R count k) ≡ true
+  unfolding rangesOf named
+  window-hit k h e = rw (left-cons count R k zeroRange h l, e)
+
+  pub window-end : (k : ℕ) → count ≤ k → named b i (left R count k) ≡ false
+  unfolding rangesOf named
+  window-end k h = rw (left-end count R k h)

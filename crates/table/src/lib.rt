@@ -5,8 +5,8 @@ ghost use Prim.Native.Nat.{ℕ, _+_, _-_, _*_, _≤_, _<_, suc};
 ghost use lib.ListN.{take};
 ghost use Rattle.ranges.specs.Range.{line, from, upto, front, back, covers, splitAt};
 ghost use Rattle.ranges.specs.Search.{startsBefore, endsBy};
-ghost use Rattle.ranges.specs.Table.{holders, fresh};
-ghost use Rattle.table.specs.Table.{numberOf, ranged, rangesOf, rangedOf, zeroRange, Small, Table, partsOf, Cut, coveringAt};
+ghost use Rattle.ranges.specs.Table.{holders, fresh, window, named};
+ghost use Rattle.table.specs.Table.{numberOf, ranged, rangeOf, rangesOf, rangedOf, zeroRange, Small, Table, partsOf, Cut, coveringAt};
 
 // What keeps the pages of a range, with the backing's number. "Between two calls `Nothing` stands only in unused slots."
 pub enum BackingPages {
@@ -274,4 +274,29 @@ pub fn fresh_number(ranges: [PageRange; 512], count: usize) -> u32
         k -= 1;
     }
     n
+}
+
+// Whether index i of backing b lies in the window of a range.
+pub fn in_window(r: PageRange, b: u32, i: u32) -> bool
+    ensures { λ q. ⌜ q ≡ window b i (rangeOf r) ⌝ }
+{
+    let k = r.backing;
+    let m = number(k);
+    (b == m) & ((r.offset <= i) & ((i as usize) < (r.offset as usize) + (r.length as usize)))
+}
+
+// Whether it lies in the window of some range of the table.
+pub fn has_window(ranges: [PageRange; 512], count: usize, b: u32, i: u32) -> bool
+    requires { ⌜ count ≤ 512 ⌝ }
+    ensures { λ q. ⌜ q ≡ named b i (rangesOf (take count ranges)) ⌝ }
+{
+    let mut k: usize = 0;
+    while k < count {
+        let r = ranges[k];
+        if in_window(r, b, i) {
+            return true;
+        }
+        k += 1;
+    }
+    false
 }

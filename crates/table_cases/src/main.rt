@@ -4,6 +4,7 @@ use edit::cut_range;
 use edit::empty_table;
 use edit::put_range;
 use page::PageNumber;
+use places::Place;
 use table::BackingPages;
 use table::Found;
 use table::PageRange;
@@ -302,6 +303,80 @@ fn holders() {
     report(b"gap at 2", table::fresh_number(held(1, 3), 2) == 2);
 }
 
+// Indexes 0 of backings 7 and 9 are in windows.
+fn windows() {
+    report(
+        b"index 0 of 7 is in a window",
+        table::has_window(held(7, 9), 2, 7, 0),
+    );
+    report(
+        b"index 1 of 7 is in none",
+        !table::has_window(held(7, 9), 2, 7, 1),
+    );
+    report(
+        b"index 0 of 9 is in a window",
+        table::has_window(held(7, 9), 2, 9, 0),
+    );
+    report(
+        b"not of the first range alone",
+        !table::has_window(held(7, 9), 1, 9, 0),
+    );
+    report(
+        b"backing 8 has no window",
+        !table::has_window(held(7, 9), 2, 8, 0),
+    );
+}
+
+// Frames 0 to 2 stand at (7, 0), (7, 1) and (9, 0); the table is trimmed by the first n of the ranges of 7 and 9.
+fn trimmed(n: usize) -> [Place; 1024]
+    requires { ⌜ n ≤ 2 ⌝ }
+{
+    let z = Place {
+        backing: 0,
+        index: 0,
+    };
+    let mut a = [z; 1024];
+    a[0] = Place {
+        backing: 7,
+        index: 0,
+    };
+    a[1] = Place {
+        backing: 7,
+        index: 1,
+    };
+    a[2] = Place {
+        backing: 9,
+        index: 0,
+    };
+    trim::trimmed(a, 3, held(7, 9), n)
+}
+
+fn stands(a: [Place; 1024], f: usize, b: u32, i: u32) -> bool
+    requires { ⌜ f < 1024 ⌝ }
+{
+    let p = a[f];
+    (p.backing == b) & (p.index == i)
+}
+
+fn trims() {
+    let a = trimmed(2);
+    report(
+        b"entries in windows stay",
+        stands(a, 0, 7, 0) & stands(a, 2, 9, 0),
+    );
+    report(b"an entry in none goes", stands(a, 1, 0, 0));
+    let b = trimmed(1);
+    report(
+        b"the window of an unused slot does not count",
+        stands(b, 0, 7, 0) & stands(b, 2, 0, 0),
+    );
+    let c = trimmed(0);
+    report(
+        b"no range, no entry",
+        stands(c, 0, 0, 0) & stands(c, 1, 0, 0) & stands(c, 2, 0, 0),
+    );
+}
+
 fn main() {
     numbers();
     cuts();
@@ -311,4 +386,6 @@ fn main() {
     cut_more_tables();
     puts();
     holders();
+    windows();
+    trims();
 }

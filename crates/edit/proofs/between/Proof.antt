@@ -1,12 +1,9 @@
-use mathlib.Core.Path.{_≡_, refl}
-use Rattle.table.specs.Table.{rangedOf, partsOf, ranged}
-use Prim.Native.Nat.{ℕ, _≤_}
+use mathlib.Core.Path.{refl}
+use Rattle.table.specs.Table.{rangedOf}
 use native.Mathlib.Omega.{arith}
 use borrow.Author.Needs.{needs}
 use Rattle.edit.proofs.between.Statement.{statement}
 use Rattle.edit.proofs.between.Tie as tie
-use Rattle.edit.proofs.between.Reads as reads
-use Rattle.edit.proofs.between.Lts as lts
 
 enum-told : tie.Need-enum-told
 enum-told c = search needs

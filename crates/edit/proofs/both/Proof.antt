@@ -1,13 +1,9 @@
-use mathlib.Core.Path.{_≡_, refl}
-use Rattle.table.specs.Table.{rangedOf, partsOf, ranged}
-use Prim.Native.Nat.{ℕ, _≤_}
+use mathlib.Core.Path.{refl}
+use Rattle.table.specs.Table.{rangedOf}
 use native.Mathlib.Omega.{arith}
 use borrow.Author.Needs.{needs}
 use Rattle.edit.proofs.both.Statement.{statement}
 use Rattle.edit.proofs.both.Tie as tie
-use Rattle.edit.proofs.both.Reads as reads
-use Rattle.edit.proofs.both.Lts as lts
-use Rattle.table.proofs.zero_range.Reads as zero-range-reads
 
 zero-range-requires : tie.Need-zero-range-requires
 zero-range-requires c κs = search needs

@@ -1,25 +1,14 @@
 use Rattle.edit.specs.Keeps.{cut-keeps}
 use Rattle.edit.specs.Edits.{met-order, cut-met, cut-none}
-use Rattle.table.specs.Table.{ranged, rangedOf, zeroRange, partsOf}
-use Rattle.ranges.specs.Search.{startsBefore, endsBy}
-use Rattle.ranges.specs.Range.{from, upto}
+use Rattle.table.specs.Table.{rangedOf}
 use lib.Seq.{length-take-le}
-use lib.ListN.{length, getD, take, length-take}
-use Prim.Native.Nat.{ℕ, suc, _+_, _-_, _*_, _≤_, _<_}
-use mathlib.Core.List.{List, [], _∷_, _++_}
-use mathlib.Core.Path.{_≡_, refl, ap, sym, _∙_}
+use lib.ListN.{take}
+use Prim.Native.Nat.{ℕ, _-_}
+use mathlib.Core.Path.{refl}
 use native.Mathlib.Omega.{arith}
 use borrow.Author.Needs.{needs}
 use Rattle.edit.proofs.cut_range.Statement.{statement}
 use Rattle.edit.proofs.cut_range.Tie as tie
-use Rattle.edit.proofs.cut_range.Reads as reads
-use Rattle.edit.proofs.cut_range.Lts as lts
-use Rattle.edit.proofs.both.Reads as both-reads
-use Rattle.table.proofs.ends_by.Reads as ends-by-reads
-use Rattle.edit.proofs.splice.Reads as splice-reads
-use Rattle.table.proofs.split_range.Reads as split-range-reads
-use Rattle.table.proofs.starts_before.Reads as starts-before-reads
-use Rattle.table.proofs.zero_range.Reads as zero-range-reads
 
 ends-by-requires : tie.Need-ends-by-requires
 ends-by-requires c κs = search needs

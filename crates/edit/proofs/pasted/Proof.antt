@@ -1,15 +1,12 @@
-use mathlib.Core.Path.{ap, sym, _∙_}
 use Rattle.lists.specs.Paste.{paste-next}
 use mathlib.Core.Path.{_≡_}
 use Prim.Native.Nat.{_≤_, _-_}
 use lib.ListN.{drop}
-use lib.Seq.{paste, paste-zero, paste-suc}
+use lib.Seq.{paste, paste-zero}
 use borrow.Author.Needs.{needs}
 use native.Mathlib.Omega.{arith}
 use Rattle.edit.proofs.pasted.Statement.{statement}
 use Rattle.edit.proofs.pasted.Tie as tie
-use Rattle.edit.proofs.pasted.Reads as reads
-use Rattle.edit.proofs.pasted.Lts as lts
 
 abbrev Inv-loop : tie.InvT-loop
 Inv-loop at from n src d₀ i₀ d i = (i ≤ n) × (d ≡ paste d₀ at (drop from src) i)

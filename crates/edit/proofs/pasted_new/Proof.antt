@@ -1,15 +1,11 @@
 use native.Mathlib.Numerals.{add-one}
-use Rattle.lists.specs.Paste.{paste-next}
 use mathlib.Core.Path.{_≡_}
 use Prim.Native.Nat.{_≤_, _-_}
-use lib.ListN.{drop}
 use lib.Seq.{paste, paste-zero, paste-suc}
 use borrow.Author.Needs.{needs}
 use native.Mathlib.Omega.{arith}
 use Rattle.edit.proofs.pasted_new.Statement.{statement}
 use Rattle.edit.proofs.pasted_new.Tie as tie
-use Rattle.edit.proofs.pasted_new.Reads as reads
-use Rattle.edit.proofs.pasted_new.Lts as lts
 
 abbrev Inv-loop : tie.InvT-loop
 Inv-loop at n src d₀ i₀ d i = (i ≤ n) × (d ≡ paste d₀ at src i)

@@ -1,27 +1,16 @@
 use Rattle.edit.specs.Keeps.{put-keeps}
-use Rattle.ranges.specs.Range.{front, back}
+use Rattle.ranges.specs.Range.{front, back, from, upto}
 use Rattle.edit.specs.Edits.{met-order, put-met, put-none}
-use Rattle.table.specs.Table.{ranged, rangedOf, zeroRange, partsOf}
+use Rattle.table.specs.Table.{ranged, rangedOf, zeroRange}
 use Rattle.ranges.specs.Search.{startsBefore, endsBy}
-use Rattle.ranges.specs.Range.{from, upto}
 use lib.Seq.{length-take-le}
-use lib.ListN.{length, getD, take, length-take}
-use Prim.Native.Nat.{ℕ, suc, _+_, _-_, _*_, _≤_, _<_}
-use mathlib.Core.List.{List, [], _∷_, _++_}
-use mathlib.Core.Path.{_≡_, refl, ap, sym, _∙_}
+use lib.ListN.{getD, take}
+use Prim.Native.Nat.{ℕ, _-_}
+use mathlib.Core.Path.{_≡_, refl, ap, _∙_}
 use native.Mathlib.Omega.{arith}
 use borrow.Author.Needs.{needs}
 use Rattle.edit.proofs.put_range.Statement.{statement}
 use Rattle.edit.proofs.put_range.Tie as tie
-use Rattle.edit.proofs.put_range.Reads as reads
-use Rattle.edit.proofs.put_range.Lts as lts
-use Rattle.table.proofs.PageRange.end.Reads as end-reads
-use Rattle.table.proofs.PageRange.first.Reads as first-reads
-use Rattle.edit.proofs.between.Reads as between-reads
-use Rattle.table.proofs.ends_by.Reads as ends-by-reads
-use Rattle.edit.proofs.splice.Reads as splice-reads
-use Rattle.table.proofs.split_range.Reads as split-range-reads
-use Rattle.table.proofs.starts_before.Reads as starts-before-reads
 
 first-requires : tie.Need-first-requires
 first-requires c κs = search needs

@@ -1,14 +1,8 @@
 use Rattle.edit.specs.Splice.{splice-law}
 use borrow.Author.Needs.{needs}
 use native.Mathlib.Omega.{arith}
-use borrow.Author.Needs.{needs}
 use Rattle.edit.proofs.splice.Statement.{statement}
 use Rattle.edit.proofs.splice.Tie as tie
-use Rattle.edit.proofs.splice.Reads as reads
-use Rattle.edit.proofs.splice.Lts as lts
-use Rattle.edit.proofs.pasted.Reads as pasted-reads
-use Rattle.edit.proofs.pasted_new.Reads as pasted-new-reads
-use Rattle.table.proofs.zero_range.Reads as zero-range-reads
 
 zero-range-requires : tie.Need-zero-range-requires
 zero-range-requires c κs = search needs

@@ -1,18 +1,10 @@
 use Rattle.table.specs.Pieces.{back-all, back-part}
 use Rattle.ranges.specs.Cut.{back-none}
-use Rattle.ranges.specs.Range.{Ranged, line, from, upto, keep, skip, front, back, splitAt}
-use Prim.Native.Nat.{ℕ, suc, _+_, _-_, _*_, _≤_, _<_}
-use mathlib.Core.Path.{_≡_, refl, ap, sym, _∙_}
+use mathlib.Core.Path.{sym}
 use native.Mathlib.Omega.{arith}
 use borrow.Author.Needs.{needs}
 use Rattle.table.proofs.back_of.Statement.{statement}
 use Rattle.table.proofs.back_of.Tie as tie
-use Rattle.table.proofs.back_of.Reads as reads
-use Rattle.table.proofs.back_of.Lts as lts
-use Rattle.page.proofs.PageNumber.offset.Reads as offset-reads
-use Rattle.table.proofs.PageRange.end.Reads as end-reads
-use Rattle.table.proofs.PageRange.first.Reads as first-reads
-use Rattle.table.proofs.PageRange.new_from.Reads as new-from-reads
 
 end-requires : tie.Need-end-requires
 end-requires c κs = search needs

@@ -1,15 +1,9 @@
 use Rattle.table.specs.Searching.{starts-count, none-before, covers-it, ends-short}
-use lib.ListN.{length, getD, take}
-use Prim.Native.Nat.{ℕ, suc, _+_, _-_, _*_, _/_, _≤_, _<_}
-use mathlib.Core.Path.{_≡_, refl, ap, sym, _∙_}
+use Prim.Native.Nat.{_+_, _-_}
 use native.Mathlib.Omega.{arith}
 use borrow.Author.Needs.{needs}
 use Rattle.table.proofs.covering.Statement.{statement}
 use Rattle.table.proofs.covering.Tie as tie
-use Rattle.table.proofs.covering.Reads as reads
-use Rattle.table.proofs.covering.Lts as lts
-use Rattle.table.proofs.PageRange.end.Reads as end-reads
-use Rattle.table.proofs.starts_before.Reads as starts-before-reads
 
 add-starts-before : tie.Need-add-starts-before
 add-starts-before c = search needs

@@ -1,15 +1,9 @@
 use Rattle.table.specs.Searching.{starts-count, no-ends, ends-before, ends-there}
-use lib.ListN.{length, getD, take}
-use Prim.Native.Nat.{ℕ, suc, _+_, _-_, _*_, _/_, _≤_, _<_}
-use mathlib.Core.Path.{_≡_, refl, ap, sym, _∙_}
+use Prim.Native.Nat.{_-_}
 use native.Mathlib.Omega.{arith}
 use borrow.Author.Needs.{needs}
 use Rattle.table.proofs.ends_by.Statement.{statement}
 use Rattle.table.proofs.ends_by.Tie as tie
-use Rattle.table.proofs.ends_by.Reads as reads
-use Rattle.table.proofs.ends_by.Lts as lts
-use Rattle.table.proofs.PageRange.end.Reads as end-reads
-use Rattle.table.proofs.starts_before.Reads as starts-before-reads
 
 starts-before-requires : tie.Need-starts-before-requires
 starts-before-requires c κs = search needs

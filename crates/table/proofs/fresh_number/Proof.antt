@@ -1,16 +1,13 @@
 use Rattle.table.specs.Holding.{fresh-start, fresh-hit, fresh-turn, fresh-end, ranges-length}
-use Rattle.table.specs.Table.{rangesOf, zeroRange}
-use Rattle.ranges.specs.Table.{holders, fresh, freshFrom}
-use lib.ListN.{length, getD, take}
-use Prim.Native.Nat.{ℕ, suc, _+_, _-_, _*_, _≤_, _<_}
-use mathlib.Core.Path.{_≡_, refl, ap, sym, _∙_}
+use Rattle.table.specs.Table.{rangesOf}
+use Rattle.ranges.specs.Table.{fresh, freshFrom}
+use lib.ListN.{length, take}
+use Prim.Native.Nat.{_+_}
+use mathlib.Core.Path.{_≡_, sym, _∙_}
 use borrow.Author.Needs.{needs}
 use native.Mathlib.Omega.{arith}
 use Rattle.table.proofs.fresh_number.Statement.{statement}
 use Rattle.table.proofs.fresh_number.Tie as tie
-use Rattle.table.proofs.fresh_number.Reads as reads
-use Rattle.table.proofs.fresh_number.Lts as lts
-use Rattle.table.proofs.holder_count.Reads as holder-count-reads
 
 abbrev Inv-loop : tie.InvT-loop
 Inv-loop ranges count n₀ k₀ n k = (n + k ≡ count + 1) × (freshFrom k n (rangesOf (take count ranges)) ≡ fresh (rangesOf (take count ranges)))

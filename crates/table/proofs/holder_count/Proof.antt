@@ -1,16 +1,12 @@
 use Rattle.table.specs.Holding.{left, holders-hit, holders-miss, holders-end}
-use Rattle.table.specs.Table.{rangesOf, zeroRange}
 use Rattle.ranges.specs.Table.{holders}
-use lib.ListN.{length, getD, take}
-use Prim.Native.Nat.{ℕ, suc, _+_, _-_, _*_, _≤_, _<_}
-use mathlib.Core.Path.{_≡_, refl, ap, sym, _∙_}
+use lib.ListN.{length}
+use Prim.Native.Nat.{_+_, _-_, _≤_}
+use mathlib.Core.Path.{_≡_}
 use borrow.Author.Needs.{needs}
 use native.Mathlib.Omega.{arith}
 use Rattle.table.proofs.holder_count.Statement.{statement}
 use Rattle.table.proofs.holder_count.Tie as tie
-use Rattle.table.proofs.holder_count.Reads as reads
-use Rattle.table.proofs.holder_count.Lts as lts
-use Rattle.table.proofs.number.Reads as number-reads
 
 abbrev Inv-loop : tie.InvT-loop
 Inv-loop count b ranges n₀ i₀ n i = (i ≤ count) × (n ≤ i) × (n + holders b (left ranges count i) ≡ holders b (left ranges count 0))

@@ -1,17 +1,9 @@
 use Rattle.table.specs.Pieces.{split-at-law, middle-part}
-use Prim.Native.Nat.{ℕ, suc, _+_, _-_, _*_, _≤_, _<_}
-use mathlib.Core.Path.{_≡_, refl, ap, sym, _∙_}
+use Prim.Native.Nat.{_+_}
 use native.Mathlib.Omega.{arith}
 use borrow.Author.Needs.{needs}
 use Rattle.table.proofs.split_at.Statement.{statement}
 use Rattle.table.proofs.split_at.Tie as tie
-use Rattle.table.proofs.split_at.Reads as reads
-use Rattle.table.proofs.split_at.Lts as lts
-use Rattle.page.proofs.PageNumber.offset.Reads as offset-reads
-use Rattle.table.proofs.PageRange.first.Reads as first-reads
-use Rattle.table.proofs.PageRange.new_from.Reads as new-from-reads
-use Rattle.table.proofs.back_of.Reads as back-of-reads
-use Rattle.table.proofs.front_of.Reads as front-of-reads
 
 front-of-requires : tie.Need-front-of-requires
 front-of-requires c κs = search needs

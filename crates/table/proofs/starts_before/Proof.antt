@@ -1,17 +1,13 @@
 use Rattle.table.specs.Searching.{low-more, high-more, starts-found}
 use borrow.Author.Count.{below-none}
-use Rattle.table.specs.Table.{ranged, zeroRange, Table}
-use Rattle.ranges.specs.Range.{from, upto}
-use lib.ListN.{length, getD, take}
-use Prim.Native.Nat.{ℕ, suc, _+_, _-_, _*_, _/_, _≤_, _<_}
-use mathlib.Core.Path.{_≡_, refl, ap, sym, _∙_}
+use Rattle.table.specs.Table.{ranged, zeroRange}
+use Rattle.ranges.specs.Range.{from}
+use lib.ListN.{getD}
+use Prim.Native.Nat.{ℕ, _+_, _-_, _/_, _≤_, _<_}
 use borrow.Author.Needs.{needs}
 use native.Mathlib.Omega.{arith}
 use Rattle.table.proofs.starts_before.Statement.{statement}
 use Rattle.table.proofs.starts_before.Tie as tie
-use Rattle.table.proofs.starts_before.Reads as reads
-use Rattle.table.proofs.starts_before.Lts as lts
-use Rattle.table.proofs.PageRange.first.Reads as first-reads
 
 abbrev Inv-loop : tie.InvT-loop
 Inv-loop count g ranges lo₀ hi₀ lo hi = (lo ≤ hi) × (hi ≤ count) × ((k : ℕ) → k < lo → from (ranged (getD ranges k zeroRange)) < g)

@@ -1,15 +1,9 @@
 use Rattle.edit.specs.declared.RangeTable.{RangeTable}
-use Prim.Native.Nat.{ℕ, _+_, _≤_, _<_}
-use mathlib.Core.Path.{_≡_, ap}
+use mathlib.Core.Path.{ap}
 use native.Mathlib.Omega.{arith}
 use borrow.Author.Needs.{needs}
 use Rattle.table_cases.proofs.two.Statement.{statement}
 use Rattle.table_cases.proofs.two.Tie as tie
-use Rattle.table_cases.proofs.two.Reads as reads
-use Rattle.table_cases.proofs.two.Lts as lts
-use Rattle.edit.proofs.empty_table.Reads as empty-table-reads
-use Rattle.edit.proofs.put_range.Reads as put-range-reads
-use Rattle.table_cases.proofs.pages.Reads as pages-reads
 
 empty-table-requires : tie.Need-empty-table-requires
 empty-table-requires c κs = search needs
