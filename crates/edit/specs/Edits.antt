@@ -105,6 +105,18 @@ module _ (R : List PageRange) (count : ℕ) (T : Table R count) where
         ∙ ap (λ z. take p used ++ (z ++ drop q used)) (ap₂ (λ u v. u ++ v) (front-met k ∙ sym ex) (back-met k ∙ sym ey) ∙ sym er))
         eo ec
 
+    -- there is room for the parts, if there is for the cut table
+    pub cut-room : (new : List PageRange) (n : ℕ) (x y : List (Ranged BackingPages)) → p < q → length new ≡ n → rangedOf new ≡ x ++ y
+        → x ≡ front a (ranged (getD R p zeroRange)) → y ≡ back e (ranged (getD R (q - 1) zeroRange)) → length (carve a e used) ≤ 512 → count + n ≤ 512 + (q - p)
+    cut-room new n x y k en er ex ey room =
+        let c : carve a e used ≡ take p used ++ (rangedOf new ++ drop q used) =
+        carve-around (ranged zeroRange) a e 0 p q used h (T .rising) this
+        ∙ ap (λ z. take p used ++ (z ++ drop q used)) (ap₂ (λ u v. u ++ v) (front-met k ∙ sym ex) (back-met k ∙ sym ey) ∙ sym er) in
+        let u = used-length R count T in
+        let m : length (take p used ++ (rangedOf new ++ drop q used)) ≡ p + (n + (count - q)) =
+        simp (length-append, length-drop, length-take-le p used (omega (arith, met-order .1)), ranged-length, en) (omega (arith, length-take-le count R (omega (arith, T .few, T .full)))) in
+        omega (arith, ap length c, m, met-order .1)
+
     pub cut-none : (new out : List PageRange) → q ≤ p → rangedOf new ≡ [] → out ≡ spliced R count p 0 new → record { ranges = out; count = count } ≡ cutTable R count a e
     unfolding cutTable
     cut-none new out k er eo =

@@ -82,12 +82,11 @@ module _ (R : List PageRange) (count : ℕ) (T : Table R count) where
         l,
       )
 
-  pub cut-keeps : (a e : ℕ) → a < e → count + 1 ≤ 512 → (r : RangeTable) → r ≡ cutTable R count a e → (Table (r .ranges) (r .count)) × (r .count ≤ count + 1)
+  pub cut-keeps : (a e : ℕ) → a < e → length (carve a e used) ≤ 512 → (r : RangeTable) → r ≡ cutTable R count a e → Table (r .ranges) (r .count)
   unfolding cutTable
-  cut-keeps a e h f r q =
-      let m : length (carve a e used) ≤ suc (length used) = carve-more a e 0 used (omega arith) (T .rising) in
-      let l : length (carve a e used) ≤ count + 1 = omega (arith, used-length R count T) in
-      rw q (
-        tabled-table (carve a e used) (omega arith) (carve-rising a e 0 used (omega arith) (T .rising)) (carve-all tiny-piece a e used tiny),
-        l,
-      )
+  cut-keeps a e h room r q =
+      rw q (tabled-table (carve a e used) room (carve-rising a e 0 used (omega arith) (T .rising)) (carve-all tiny-piece a e used tiny))
+
+  -- a cut leaves at most one range more
+  pub cut-fits : (a e : ℕ) → a < e → count + 1 ≤ 512 → length (carve a e used) ≤ 512
+  cut-fits a e h f = omega (arith, carve-more a e 0 used (omega arith) (T .rising), used-length R count T)

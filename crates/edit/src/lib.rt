@@ -9,6 +9,7 @@ ghost use mathlib.Core.List.{_++_, _∷_, []};
 ghost use Prim.Native.Nat.{ℕ, _+_, _-_, _≤_, _<_};
 ghost use lib.ListN.{length, take, drop};
 ghost use lib.Seq.{paste};
+ghost use Rattle.ranges.specs.Range.{carve};
 ghost use Rattle.table.specs.Table.{ranged, rangedOf, Small, Table, partsOf};
 ghost use Rattle.edit.specs.Edit.{spliced, tabled, putTable, cutTable};
 
@@ -182,8 +183,8 @@ pub fn put_range(ranges: [PageRange; 512], count: usize, n: PageRange) -> RangeT
 
 // The table with the pages from a up to e of the line cut out.
 pub fn cut_range(ranges: [PageRange; 512], count: usize, a: usize, e: usize) -> RangeTable
-    requires { ⌜ (Table ranges count) × (a < e) × (count + 1 ≤ 512) ⌝ }
-    ensures { λ r. ⌜ (r ≡ cutTable ranges count a e) × (Table (r .ranges) (r .count)) × (r .count ≤ count + 1) ⌝ }
+    requires { ⌜ (Table ranges count) × (a < e) × (length (carve a e (rangedOf (take count ranges))) ≤ 512) ⌝ }
+    ensures { λ r. ⌜ (r ≡ cutTable ranges count a e) × (Table (r .ranges) (r .count)) ⌝ }
 {
     let p = ends_by(ranges, count, a);
     let q = starts_before(ranges, count, e);

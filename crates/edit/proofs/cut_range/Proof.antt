@@ -1,5 +1,5 @@
 use Rattle.edit.specs.Keeps.{cut-keeps}
-use Rattle.edit.specs.Edits.{met-order, cut-met, cut-none}
+use Rattle.edit.specs.Edits.{met-order, cut-met, cut-none, cut-room}
 use Rattle.table.specs.Table.{rangedOf}
 use lib.Seq.{length-take-le}
 use lib.ListN.{take}
@@ -144,7 +144,9 @@ splice-requires c κs =
     let f = T .few in
     let t = c .before .before .before .before .before .before .if1 .taken in
     let m = c .before .both .ensures in
-    (omega arith, omega (arith, o), omega (arith, m), omega (arith, o, m))
+    let r = cut-room (a .t1) (a .count) T (a .a) (a .e) p q (P .1) ep eq (take (c .before .both .result .count) (c .before .both .result .items)) (c .before .both .result .count) _ _ t
+    (length-take-le (c .before .both .result .count) (c .before .both .result .items) (omega (arith, m))) (m .2) (c .before .before .before .split-range .ensures .before) (c .before .before .split-range2 .ensures .after) (P .2) in
+    (omega arith, omega (arith, o), omega (arith, m), omega (arith, r))
 
 add-t24 : tie.Need-add-t24
 add-t24 c = search needs
@@ -196,7 +198,7 @@ returns c =
     cut-met (a .t1) (a .count) T (a .a) (a .e) p q (P .1) ep eq (take (c .before .before .both .result .count) (c .before .before .both .result .items)) (c .splice .result) (c .before .before .both .result .count) _ _ _ (omega arith)
     (length-take-le (c .before .before .both .result .count) (c .before .before .both .result .items) (omega (arith, m))) (m .2) (c .before .before .before .before .split-range .ensures .before) (c .before .before .before .split-range2 .ensures .after) (c .splice .ensures) refl in
     let k = cut-keeps (a .t1) (a .count) T (a .a) (a .e) (P .1) (P .2) _ e in
-    (e, k .0, k .1)
+    (e, k)
 
 zero-range-requires : tie.Need-zero-range-requires
 zero-range-requires c κs = search needs
@@ -231,7 +233,7 @@ returns-2 c =
     let e =
     cut-none (a .t1) (a .count) T (a .a) (a .e) p q (P .1) ep eq _ (c .splice2 .result) (omega arith) refl (c .splice2 .ensures) in
     let k = cut-keeps (a .t1) (a .count) T (a .a) (a .e) (P .1) (P .2) _ e in
-    (e, k .0, k .1)
+    (e, k)
 
 pub cut-range-spec : {M : Type 1} → statement M
 cut-range-spec =
