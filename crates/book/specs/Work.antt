@@ -58,7 +58,7 @@ abbrev pub seen : ℕ → Option (List ℕ) → List ℕ
 seen size none = replicate size 0
 seen size (some x) = x
 
--- "A fresh frame is filled with (blank w)."
+-- "A fresh frame is filled with zeros."
 abbrev pub blank : Work → List ℕ
 blank w = replicate (w .size) 0
 

@@ -1,0 +1,140 @@
+-- A sound store's table of ranges is a table in order, and the range that covers a page is found in it.
+use mathlib.Core.Path.{_≡_, refl, ap, sym, _∙_}
+use mathlib.Core.Bool.{true, false, _&&_}
+use mathlib.Core.Option.{Option, none, some}
+use mathlib.Core.List.{List, [], _∷_, map}
+use Prim.Native.Nat.{ℕ, zero, suc, _+_, _-_, _≤_, _<_}
+use native.Mathlib.Omega.{arith}
+use lib.Dec.{ltb, leb}
+use lib.ListN.{length, take, getD}
+use lib.Seq.{length-take-le, getD-take}
+use borrow.Author.Tests.{lt-ltb, le-ltb, le-leb, ltb-true, ltb-false}
+use Rattle.lists.specs.Test.{pick, by-lt, by-test}
+use Rattle.lists.specs.Every.{All}
+use Rattle.ranges.specs.Range.{Range, Ranged, Slot, from, upto, covers, slotIn, slotAt, Rising}
+use Rattle.ranges.specs.Reback.{reback, rising-reback}
+use Rattle.ranges.specs.Search.{startsBefore, starts-in, starts-few, previous-is, slot-previous, slotOf, lastOf}
+use Rattle.table.specs.declared.PageRange.{PageRange}
+use Rattle.table.specs.declared.BackingPages.{BackingPages}
+use Rattle.table.specs.declared.BackingPages.the-variants.{Nothing, Single, Many}
+use Rattle.table.specs.declared.Found.{Found}
+use Rattle.table.specs.declared.Found.the-variants.{At, Missing}
+use Rattle.table.specs.Table.{Table, Small, numberOf, ranged, rangedOf, rangeOf, rangesOf, zeroRange, coveringAt, reaching}
+use Rattle.table.specs.Searching.{used-length, used-at}
+use Rattle.places.specs.declared.Place.{Place}
+use Rattle.store.specs.declared.Store.{Store}
+use Rattle.store.specs.Abs.{used}
+use Rattle.store.specs.Sound.{Sound, Sized, Fine, Kind}
+use Rattle.ranges.specs.Reback.{reback-rising}
+use lib.ListN.{List·getD-map}
+use Rattle.table.specs.Searching.{starts-count}
+
+all-at : {A : Type 0} (P : A → Type 0) (l : List A) (d : A) → All P l → (i : ℕ) → i < length l → P (getD l i d)
+unfolding All
+all-at P [] d h i k = absurd (omega arith)
+all-at P (x ∷ l) d h zero k = h .0
+all-at P (x ∷ l) d h (suc i) k = all-at P l d (h .1) i (omega arith)
+
+-- the same ranges, with their backings and with their numbers
+rebacked : (l : List PageRange) → map (reback numberOf) (rangedOf l) ≡ rangesOf l
+unfolding rangedOf rangesOf
+rebacked [] = refl
+rebacked (r ∷ l) = ap (λ k. rangeOf r ∷ k) (rebacked l)
+
+kind-small : (n : ℕ) (ps : List Place) (r : PageRange) (k : BackingPages) → Kind n ps r k → r .offset + r .length ≤ 1048576
+kind-small n ps r Nothing h = absurd h
+kind-small n ps r (Single b) h = omega (arith, h .1, h .2)
+kind-small n ps r (Many b) h = h .1
+
+module _ (s : Store) (Z : Sized s) (S : Sound s) where
+  used-fine : (i : ℕ) → i < s .count → Fine (s .live) (s .frames) (s .places) (getD (s .ranges) i zeroRange)
+  used-fine i h =
+      let l : length (used s) ≡ s .count = length-take-le (s .count) (s .ranges) (omega (arith, Z .ranges, S .few-ranges)) in
+      rw (getD-take (s .count) (s .ranges) i zeroRange h) at (all-at (Fine (s .live) (s .frames) (s .places)) (used s) zeroRange (S .fine) i (omega arith))
+
+  pub sound-table : Table (s .ranges) (s .count)
+  sound-table = record {
+    full = Z .ranges;
+    few = S .few-ranges;
+    small = λ i h.
+        let F = used-fine i h in
+        record { ends = F .within; indexes = kind-small (s .frames) (s .places) (getD (s .ranges) i zeroRange) (getD (s .ranges) i zeroRange .backing) (F .kind) };
+    rising = rising-reback numberOf 0 (rangedOf (used s)) (rw (rebacked (used s)) (S .order));
+  }
+
+starts-reback : (g : ℕ) (l : List (Ranged BackingPages)) → startsBefore g (map (reback numberOf) l) ≡ startsBefore g l
+unfolding startsBefore
+starts-reback g [] = refl
+starts-reback g (r ∷ l) = by-lt (from r) g (λ h. rw (lt-ltb (from r) g h) (ap suc (starts-reback g l))) (λ h. rw (le-ltb (from r) g h))
+
+-- THE RANGE THAT COVERS A PAGE: the page is at its slot; if there is none, at no slot
+module _ (R : List PageRange) (count : ℕ) (T : Table R count) (g : ℕ) where
+  abbrev rs : List Range
+  rs = rangesOf (take count R)
+
+  abbrev us : List (Ranged BackingPages)
+  us = rangedOf (take count R)
+
+  same-starts : startsBefore (suc g) rs ≡ startsBefore (suc g) us
+  same-starts = ap (λ l. startsBefore (suc g) l) (sym (rebacked (take count R))) ∙ starts-reback (suc g) us
+
+  at-slot : slotAt g rs ≡ slotOf g (lastOf (rangeOf zeroRange) (startsBefore (suc g) us) rs)
+  at-slot =
+      slot-previous g 0 rs (rw (rebacked (take count R)) at (reback-rising numberOf 0 us (T .rising)))
+      ∙ ap (λ o. slotOf g o) (previous-is (rangeOf zeroRange) g rs ∙ ap (λ n. lastOf (rangeOf zeroRange) n rs) same-starts)
+
+  range-at : (i : ℕ) → i < count → getD rs i (rangeOf zeroRange) ≡ rangeOf (getD R i zeroRange)
+  unfolding rangesOf
+  range-at i h = List·getD-map rangeOf (take count R) i zeroRange ∙ ap (λ r. rangeOf r) (getD-take count R i zeroRange h)
+
+  -- what is found, and what that says
+  pub record Covered (k : ℕ) : Type 0 where
+    pub inside : k < count
+    pub low : from (ranged (getD R k zeroRange)) ≤ g
+    pub high : g < upto (ranged (getD R k zeroRange))
+    pub slot : slotAt g rs ≡ some (slotIn g (rangeOf (getD R k zeroRange)))
+
+  last-at : (k : ℕ) → startsBefore (suc g) us ≡ suc k → (k < count) × (from (ranged (getD R k zeroRange)) ≤ g)
+  last-at k e =
+      let h : k < count = omega (arith, starts-count R count T (suc g)) in
+      (h, omega (arith, starts-in (ranged zeroRange) (suc g) k us (omega arith), ap (λ r. from r) (used-at R count T k h)))
+
+  pub covered-missing : coveringAt g us ≡ Missing → slotAt g rs ≡ none
+  unfolding coveringAt
+  covered-missing e = at-slot ∙ go (startsBefore (suc g) us) refl e
+    where
+      go : (n : ℕ) → startsBefore (suc g) us ≡ n → reaching g us n ≡ Missing → slotOf g (lastOf (rangeOf zeroRange) n rs) ≡ none
+      go zero m f = refl
+      go (suc k) m f =
+          let L = last-at k m in
+          by-lt g (upto (ranged (getD R k zeroRange)))
+          (λ u. absurd
+          (let v : g < upto (getD us k (ranged zeroRange)) = omega (arith, ap (λ r. upto r) (used-at R count T k (L .0))) in
+          let w : At k ≡ Missing = rw (lt-ltb g (upto (getD us k (ranged zeroRange))) v) at f in
+          let z : _≡_ {A = ℕ} 0 1 = cc in omega arith))
+          (λ u. rw (range-at k (L .0), le-leb (from (ranged (getD R k zeroRange))) g (L .1), le-ltb g (upto (ranged (getD R k zeroRange))) u))
+
+  pub covered-at : (k : ℕ) → coveringAt g us ≡ At k → Covered k
+  unfolding coveringAt
+  covered-at k e = go (startsBefore (suc g) us) refl e
+    where
+      go : (n : ℕ) → startsBefore (suc g) us ≡ n → reaching g us n ≡ At k → Covered k
+      go zero m f = absurd (let z : _≡_ {A = ℕ} 0 1 = cc in omega arith)
+      go (suc j) m f =
+          let L = last-at j m in
+          by-lt g (upto (ranged (getD R j zeroRange)))
+          (λ u.
+          let v : g < upto (getD us j (ranged zeroRange)) = omega (arith, ap (λ r. upto r) (used-at R count T j (L .0))) in
+          let w : At j ≡ At k = rw (lt-ltb g (upto (getD us j (ranged zeroRange))) v) at f in
+          let z : j ≡ k = cc in
+          rw (← z) (record {
+            inside = L .0;
+            low = L .1;
+            high = u;
+            slot = at-slot ∙ ap (λ n. slotOf g (lastOf (rangeOf zeroRange) n rs)) m
+                ∙ rw (range-at j (L .0), le-leb (from (ranged (getD R j zeroRange))) g (L .1), lt-ltb g (upto (ranged (getD R j zeroRange))) u);
+          }))
+          (λ u. absurd
+          (let v : upto (getD us j (ranged zeroRange)) ≤ g = omega (arith, ap (λ r. upto r) (used-at R count T j (L .0))) in
+          let w : Missing ≡ At k = rw (le-ltb g (upto (getD us j (ranged zeroRange))) v) at f in
+          let z : _≡_ {A = ℕ} 0 1 = cc in omega arith))
