@@ -1,19 +1,19 @@
 -- THE BOOK THAT A STORE STANDS FOR, with the pool's bytes x.
-use mathlib.Core.Bool.{Bool, true, false}
-use mathlib.Core.List.{List, [], _∷_}
+use mathlib.Core.Bool.{Bool}
+use mathlib.Core.List.{List}
 use Prim.Native.Nat.{ℕ, _/_, _%_, _^_}
 use lib.Dec.{eqb}
 use lib.ListN.{length, take}
+use Rattle.table.specs.declared.PageRange.{PageRange}
+use Rattle.places.specs.declared.Place.{Place}
+use Rattle.store.specs.declared.Store.{Store}
 use Rattle.lists.specs.Test.{pick}
 use Rattle.lists.specs.Listed.{listed}
-use Rattle.table.specs.declared.PageRange.{PageRange}
-use Rattle.table.specs.Table.{rangesOf}
-use Rattle.places.specs.declared.Place.{Place}
-use Rattle.places.specs.Places.{placeAt}
-use Rattle.pool.specs.Bytes.{frameAt}
 use Rattle.book.specs.Cell.{Cell, free, holds}
 use Rattle.book.specs.Book.{Book}
-use Rattle.store.specs.declared.Store.{Store}
+use Rattle.table.specs.Table.{rangesOf}
+use Rattle.places.specs.Places.{placeAt}
+use Rattle.pool.specs.Bytes.{frameAt}
 
 -- the used slots of the table
 abbrev pub used : Store → List PageRange

@@ -1,5 +1,5 @@
 -- What stands at a slot of the book is found in the places.
-use mathlib.Core.Path.{_≡_, refl, ap, sym, _∙_}
+use mathlib.Core.Path.{_≡_, refl, ap, _∙_}
 use mathlib.Core.Bool.{true, false, _&&_}
 use mathlib.Core.Option.{Option, none, some}
 use mathlib.Core.List.{List, [], _∷_}
@@ -7,17 +7,17 @@ use Prim.Native.Nat.{ℕ, zero, suc, _+_, _≤_, _<_}
 use native.Mathlib.Nat.{add-zero}
 use native.Mathlib.Omega.{arith}
 use lib.Dec.{ltb, eqb}
-use lib.ListN.{length, take, getD}
-use borrow.Author.Tests.{eqb-true, eqb-false, eq-eqb, ne-eqb, ltb-true, lt-ltb, le-ltb}
-use Rattle.lists.specs.Test.{pick, by-test, by-eq, and-left, and-right}
-use Rattle.lists.specs.Listed.{listed, listed-ext}
-use Rattle.ranges.specs.Range.{Slot}
-use Rattle.book.specs.Cell.{Cell, free, holds, isAt, bytesAt}
+use lib.ListN.{length, take}
+use borrow.Author.Tests.{eq-eqb, ne-eqb, ltb-true, lt-ltb}
 use Rattle.frames.specs.declared.Frame.{Frame}
 use Rattle.frames.specs.declared.Frame.the-variants.{At, Nothing}
 use Rattle.places.specs.declared.Place.{Place}
-use Rattle.places.specs.Places.{placeAt, standsAt, frameAt}
 use Rattle.pool.specs.Bytes as bytes
+use Rattle.lists.specs.Test.{by-test, by-eq, and-left, and-right}
+use Rattle.lists.specs.Listed.{listed, listed-ext}
+use Rattle.ranges.specs.Range.{Slot}
+use Rattle.book.specs.Cell.{Cell, bytesAt}
+use Rattle.places.specs.Places.{placeAt, standsAt, frameAt}
 use Rattle.store.specs.Abs.{cellOf, cellsOf}
 
 abbrev pub slot : ℕ → ℕ → Slot

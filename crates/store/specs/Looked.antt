@@ -3,23 +3,21 @@ use mathlib.Core.Path.{_≡_, refl, ap, sym, _∙_}
 use mathlib.Core.Option.{Option, none, some}
 use mathlib.Core.List.{List}
 use Prim.Native.Nat.{ℕ, _+_, _-_, _≤_, _<_}
-use native.Mathlib.Omega.{arith}
 use lib.ListN.{length, take, getD}
 use borrow.Author.Tests.{lt-ltb, le-ltb}
-use Rattle.ranges.specs.Range.{line, from, slotIn, slotAt}
-use Rattle.ranges.specs.Table.{holders}
-use Rattle.book.specs.Cell.{bytesAt}
-use Rattle.book.specs.Work.{pageOf}
-use Rattle.book.specs.Need.{State, absent, private, shared, stateOf, stateIn}
-use Rattle.book.specs.Book.{entry}
 use Rattle.frames.specs.declared.Frame.the-variants.{At, Nothing}
-use Rattle.places.specs.Places.{frameAt}
 use Rattle.pool.specs.Bytes as bytes
 use Rattle.table.specs.declared.PageRange.{PageRange}
 use Rattle.table.specs.declared.Found.the-variants as found
-use Rattle.table.specs.Table.{Table, numberOf, ranged, rangedOf, rangeOf, rangesOf, zeroRange, coveringAt}
 use Rattle.store.specs.declared.Store.{Store}
-use Rattle.store.specs.Abs.{used, bookOf, cellsOf}
+use Rattle.ranges.specs.Range.{line, from, slotIn, slotAt}
+use Rattle.ranges.specs.Table.{holders}
+use Rattle.book.specs.Work.{pageOf}
+use Rattle.book.specs.Need.{absent, private, shared, stateOf, stateIn}
+use Rattle.book.specs.Book.{entry}
+use Rattle.places.specs.Places.{frameAt}
+use Rattle.table.specs.Table.{Table, numberOf, ranged, rangedOf, rangeOf, rangesOf, zeroRange, coveringAt}
+use Rattle.store.specs.Abs.{used, bookOf}
 use Rattle.store.specs.Look.{slot, bytesBy, found-at}
 use Rattle.store.specs.Tabled.{Covered, covered-missing, covered-at}
 

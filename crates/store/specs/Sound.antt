@@ -6,18 +6,18 @@ use mathlib.Core.List.{List, [], _∷_}
 use Prim.Native.Nat.{ℕ, zero, suc, _+_, _≤_, _<_}
 use lib.Dec.{ltb, leb, eqb}
 use lib.ListN.{length, drop}
+use Rattle.table.specs.declared.PageRange.{PageRange}
+use Rattle.table.specs.declared.BackingPages.{BackingPages}
+use Rattle.table.specs.declared.BackingPages.the-variants.{Nothing, Single, Many}
+use Rattle.places.specs.declared.Place.{Place}
+use Rattle.store.specs.declared.Store.{Store}
 use Rattle.lists.specs.Test.{pick}
 use Rattle.lists.specs.Every.{All, every, allBelow}
 use Rattle.ranges.specs.Range.{Range, from, upto, Rising}
 use Rattle.ranges.specs.Table.{named}
 use Rattle.frames.specs.Free.{isFree}
-use Rattle.table.specs.declared.PageRange.{PageRange}
-use Rattle.table.specs.declared.BackingPages.{BackingPages}
-use Rattle.table.specs.declared.BackingPages.the-variants.{Nothing, Single, Many}
 use Rattle.table.specs.Table.{rangesOf, zeroRange}
-use Rattle.places.specs.declared.Place.{Place}
 use Rattle.places.specs.Places.{placeAt, nowhere, vacant}
-use Rattle.store.specs.declared.Store.{Store}
 use Rattle.store.specs.Abs.{used, liveBit}
 
 -- ---- the sentences

@@ -1,66 +1,27 @@
 -- A sound store's table of ranges is a table in order, and the range that covers a page is found in it.
 use mathlib.Core.Path.{_≡_, refl, ap, sym, _∙_}
-use mathlib.Core.Bool.{true, false, _&&_}
-use mathlib.Core.Option.{Option, none, some}
+use mathlib.Core.Option.{none, some}
 use mathlib.Core.List.{List, [], _∷_, map}
-use Prim.Native.Nat.{ℕ, zero, suc, _+_, _-_, _≤_, _<_}
+use Prim.Native.Nat.{ℕ, zero, suc, _≤_, _<_}
 use native.Mathlib.Omega.{arith}
-use lib.Dec.{ltb, leb}
-use lib.ListN.{length, take, getD}
-use lib.Seq.{length-take-le, getD-take}
-use borrow.Author.Tests.{lt-ltb, le-ltb, le-leb, ltb-true, ltb-false}
-use Rattle.lists.specs.Test.{pick, by-lt, by-test}
-use Rattle.lists.specs.Every.{All}
-use Rattle.ranges.specs.Range.{Range, Ranged, Slot, from, upto, covers, slotIn, slotAt, Rising}
-use Rattle.ranges.specs.Reback.{reback, rising-reback}
-use Rattle.ranges.specs.Search.{startsBefore, starts-in, starts-few, previous-is, slot-previous, slotOf, lastOf}
+use lib.ListN.{take, getD, List·getD-map}
+use lib.Seq.{getD-take}
+use borrow.Author.Tests.{lt-ltb, le-ltb, le-leb}
 use Rattle.table.specs.declared.PageRange.{PageRange}
 use Rattle.table.specs.declared.BackingPages.{BackingPages}
-use Rattle.table.specs.declared.BackingPages.the-variants.{Nothing, Single, Many}
-use Rattle.table.specs.declared.Found.{Found}
 use Rattle.table.specs.declared.Found.the-variants.{At, Missing}
-use Rattle.table.specs.Table.{Table, Small, numberOf, ranged, rangedOf, rangeOf, rangesOf, zeroRange, coveringAt, reaching}
-use Rattle.table.specs.Searching.{used-length, used-at}
-use Rattle.places.specs.declared.Place.{Place}
-use Rattle.store.specs.declared.Store.{Store}
-use Rattle.store.specs.Abs.{used}
-use Rattle.store.specs.Sound.{Sound, Sized, Fine, Kind}
-use Rattle.ranges.specs.Reback.{reback-rising}
-use lib.ListN.{List·getD-map}
-use Rattle.table.specs.Searching.{starts-count}
-
-all-at : {A : Type 0} (P : A → Type 0) (l : List A) (d : A) → All P l → (i : ℕ) → i < length l → P (getD l i d)
-unfolding All
-all-at P [] d h i k = absurd (omega arith)
-all-at P (x ∷ l) d h zero k = h .0
-all-at P (x ∷ l) d h (suc i) k = all-at P l d (h .1) i (omega arith)
+use Rattle.lists.specs.Test.{by-lt}
+use Rattle.ranges.specs.Range.{Range, Ranged, from, upto, slotIn, slotAt}
+use Rattle.ranges.specs.Reback.{reback, reback-rising}
+use Rattle.ranges.specs.Search.{startsBefore, starts-in, previous-is, slot-previous, slotOf, lastOf}
+use Rattle.table.specs.Table.{Table, numberOf, ranged, rangedOf, rangeOf, rangesOf, zeroRange, coveringAt, reaching}
+use Rattle.table.specs.Searching.{used-at, starts-count}
 
 -- the same ranges, with their backings and with their numbers
 rebacked : (l : List PageRange) → map (reback numberOf) (rangedOf l) ≡ rangesOf l
 unfolding rangedOf rangesOf
 rebacked [] = refl
 rebacked (r ∷ l) = ap (λ k. rangeOf r ∷ k) (rebacked l)
-
-kind-small : (n : ℕ) (ps : List Place) (r : PageRange) (k : BackingPages) → Kind n ps r k → r .offset + r .length ≤ 1048576
-kind-small n ps r Nothing h = absurd h
-kind-small n ps r (Single b) h = omega (arith, h .1, h .2)
-kind-small n ps r (Many b) h = h .1
-
-module _ (s : Store) (Z : Sized s) (S : Sound s) where
-  used-fine : (i : ℕ) → i < s .count → Fine (s .live) (s .frames) (s .places) (getD (s .ranges) i zeroRange)
-  used-fine i h =
-      let l : length (used s) ≡ s .count = length-take-le (s .count) (s .ranges) (omega (arith, Z .ranges, S .few-ranges)) in
-      rw (getD-take (s .count) (s .ranges) i zeroRange h) at (all-at (Fine (s .live) (s .frames) (s .places)) (used s) zeroRange (S .fine) i (omega arith))
-
-  pub sound-table : Table (s .ranges) (s .count)
-  sound-table = record {
-    full = Z .ranges;
-    few = S .few-ranges;
-    small = λ i h.
-        let F = used-fine i h in
-        record { ends = F .within; indexes = kind-small (s .frames) (s .places) (getD (s .ranges) i zeroRange) (getD (s .ranges) i zeroRange .backing) (F .kind) };
-    rising = rising-reback numberOf 0 (rangedOf (used s)) (rw (rebacked (used s)) (S .order));
-  }
 
 starts-reback : (g : ℕ) (l : List (Ranged BackingPages)) → startsBefore g (map (reback numberOf) l) ≡ startsBefore g l
 unfolding startsBefore
