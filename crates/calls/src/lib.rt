@@ -1,1 +1,183 @@
-// The public calls.
+// THE CALLS THAT NEED NO BYTES OF A PAGE. Each takes any store and any arguments. Its number is 0, or that of the table.
+use look::State;
+use page::PageNumber;
+use places::Place;
+use store::Store;
+ghost use mathlib.Core.Path.{_≡_};
+ghost use mathlib.Core.Bool.{true};
+ghost use mathlib.Core.List.{List};
+ghost use Prim.Native.Nat.{ℕ, _+_, _≤_, _<_};
+ghost use lib.ListN.{length};
+ghost use Rattle.ranges.specs.Range.{line, carve};
+ghost use Rattle.table.specs.Table.{Table, rangedOf};
+ghost use Rattle.store.specs.Abs.{used, bookOf};
+ghost use Rattle.store.specs.Sound.{sound?};
+ghost use Rattle.store.specs.Empty.{Blank};
+ghost use Rattle.calls.specs.Drop.{Dropped};
+ghost use Rattle.book.specs.Book.{newObject, dropObject, lookUp, counts, create, done, state, numbers};
+ghost use Rattle.look.specs.declared.State.the-variants.{Absent};
+ghost use Rattle.look.specs.Found.{stateIs};
+ghost use Rattle.calls.specs.Calls.{Did, said};
+
+// A call's number and the store handed back.
+pub struct Reply {
+    pub number: u8,
+    pub store: Store,
+}
+
+pub fn new_object(s: Store, object: u32) -> Reply
+    ensures { λ r. ⌜ Did (newObject object) s (r .number) done (r .store) ⌝ }
+{
+    let k = refuse::new_object(s, object);
+    if 0 < k {
+        return Reply {
+            number: k,
+            store: s,
+        };
+    }
+    let ranges = s.ranges;
+    let places = s.places;
+    let free = s.free;
+    Reply {
+        number: 0,
+        store: Store {
+            frames: s.frames,
+            live: s.live | (1u32 << object),
+            count: s.count,
+            ranges,
+            places,
+            free,
+        },
+    }
+}
+
+// A page's state; absent where the call is refused.
+pub struct Looked {
+    pub number: u8,
+    pub state: State,
+}
+
+pub fn look_up(s: Store, object: u32, page: PageNumber) -> Looked
+    ensures { λ r. ⌜ (Did (lookUp object (page .0)) s (r .number) (state (stateIs (r .state))) s) × (0 < r .number → r .state ≡ Absent) ⌝ }
+{
+    let k = refuse::look_up(s, object, page);
+    if 0 < k {
+        return Looked {
+            number: k,
+            state: State::Absent,
+        };
+    }
+    let g = table::line_of(object, page);
+    let t = look::state_of(s, g);
+    Looked {
+        number: 0,
+        state: t,
+    }
+}
+
+// Frames in use and ranges; 0 where the call is refused.
+pub struct Numbers {
+    pub number: u8,
+    pub frames: u32,
+    pub ranges: usize,
+}
+
+pub fn counts(s: Store) -> Numbers
+    ensures { λ r. ⌜ (Did counts s (r .number) (numbers (r .frames) (r .ranges)) s) × (0 < r .number → (r .frames ≡ 0) × (r .ranges ≡ 0)) ⌝ }
+{
+    let k = refuse::counts(s);
+    if 0 < k {
+        return Numbers {
+            number: k,
+            frames: 0,
+            ranges: 0,
+        };
+    }
+    let places = s.places;
+    let n = places::used_count(places, s.frames);
+    Numbers {
+        number: 0,
+        frames: n,
+        ranges: s.count,
+    }
+}
+
+// A store with no object.
+fn empty_store(frames: usize) -> Store
+    requires { ⌜ frames ≤ 1024 ⌝ }
+    ensures { λ r. ⌜ (Blank r) × (r .frames ≡ frames) ⌝ }
+{
+    let p = Place {
+        backing: 0,
+        index: 0,
+    };
+    let places = [p; 1024];
+    let free = places::free_map(places, frames);
+    let z = table::zero_range();
+    Store {
+        frames,
+        live: 0,
+        count: 0,
+        ranges: [z; 512],
+        places,
+        free,
+    }
+}
+
+// "A refused creation of a store hands back the empty store of one frame."
+pub fn create(frames: usize) -> Reply
+    ensures { λ r. ⌜ ((x : List ℕ) → record { answer = said (r .number) done; book = bookOf (r .store) x } ≡ create frames (length x)) × (sound? (r .store) ≡ true) ⌝ }
+{
+    if (1 <= frames) & (frames <= 1024) {
+        let t = empty_store(frames);
+        return Reply {
+            number: 0,
+            store: t,
+        };
+    }
+    let t = empty_store(1);
+    Reply {
+        number: 2,
+        store: t,
+    }
+}
+
+// A sound store without an object's ranges and the frames that stand in no window then.
+fn without_object(s: Store, object: u32) -> Store
+    requires { ⌜ (Table (s .ranges) (s .count)) × (s .frames ≤ 1024) × (object < 32) × (length (carve (line object 0) (line object 0 + 262144) (rangedOf (used s))) ≤ 512) ⌝ }
+    ensures { λ r. ⌜ Dropped s object r ⌝ }
+{
+    let ranges = s.ranges;
+    let a = table::line_of(object, PageNumber(0));
+    let t = edit::cut_range(ranges, s.count, a, a + PageNumber::COUNT);
+    let rest = t.ranges;
+    let old = s.places;
+    let places = trim::trimmed(old, s.frames, rest, t.count);
+    let free = places::free_map(places, s.frames);
+    Store {
+        frames: s.frames,
+        live: s.live & !(1u32 << object),
+        count: t.count,
+        ranges: rest,
+        places,
+        free,
+    }
+}
+
+// "A drop takes the ranges too."
+pub fn drop_object(s: Store, object: u32) -> Reply
+    ensures { λ r. ⌜ Did (dropObject object) s (r .number) done (r .store) ⌝ }
+{
+    let k = refuse::drop_object(s, object);
+    if 0 < k {
+        return Reply {
+            number: k,
+            store: s,
+        };
+    }
+    let t = without_object(s, object);
+    Reply {
+        number: 0,
+        store: t,
+    }
+}

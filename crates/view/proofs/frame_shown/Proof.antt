@@ -1,0 +1,81 @@
+use mathlib.Core.Path.{_≡_, ap, sym, _∙_}
+use mathlib.Core.List.{List}
+use Prim.Native.Nat.{ℕ}
+use lib.ListN.{length}
+use Rattle.ranges.specs.Range.{line}
+use Rattle.book.specs.Book.{show}
+use Rattle.store.specs.Good.{sound-table}
+use Rattle.look.specs.declared.Located.{Located}
+use Rattle.look.specs.declared.PageAt.the-variants.{Absent, Present}
+use Rattle.look.specs.Look.{located}
+use Rattle.look.specs.Found.{frameIs}
+use Rattle.refuse.specs.Refuse.{refusal}
+use Rattle.view.specs.Showing.{refused-none, accepts-length, frame-shown, frame-inside}
+use native.Mathlib.Omega.{arith}
+use borrow.Author.Needs.{needs}
+use Rattle.view.proofs.frame_shown.Statement.{statement}
+use Rattle.view.proofs.frame_shown.Tie as tie
+
+show-requires : tie.Need-show-requires
+show-requires c κs = search needs
+
+returns : tie.Need-returns
+returns c =
+    let a = c .before .before .args in
+    (λ x e. refused-none (a .s) x (a .object) (a .page .0) (c .before .show .result) (c .if1 .taken) (c .before .show .ensures .0 x e), tt)
+
+line-of-requires : tie.Need-line-of-requires
+line-of-requires c κs =
+    let a = c .before .before .args in
+    let k : c .before .show .result ≡ 0 = omega (arith, c .if1 .left) in
+    let r : (x : List ℕ) → length x ≡ a .pool → 0 ≡ refusal (a .s) x (show (a .object) (a .page .0)) = λ x e. sym k ∙ c .before .show .ensures .0 x e in
+    let A = accepts-length (a .s) (a .pool) (a .object) (a .page .0) r in
+    omega (arith, A .page)
+
+locate-requires : tie.Need-locate-requires
+locate-requires c κs =
+    let a = c .before .before .before .args in
+    let k : c .before .before .show .result ≡ 0 = omega (arith, c .before .if1 .left) in
+    let r : (x : List ℕ) → length x ≡ a .pool → 0 ≡ refusal (a .s) x (show (a .object) (a .page .0)) = λ x e. sym k ∙ c .before .before .show .ensures .0 x e in
+    let A = accepts-length (a .s) (a .pool) (a .object) (a .page .0) r in
+    (sound-table (a .s) (c .before .before .show .ensures .1) (A .sound), A .sound .few-frames, omega (arith, c .line-of .ensures, A .page, A .name))
+
+enum-told : tie.Need-enum-told
+enum-told c = search needs
+
+enum-known-l : tie.Need-enum-known-l
+enum-known-l c = search needs
+
+returns-2 : tie.Need-returns-2
+returns-2 c =
+    let a = c .before .before .before .before .before .before .args in
+    let k : c .before .before .before .before .before .show .result ≡ 0 = omega (arith, c .before .before .before .before .if1 .left) in
+    let r : (x : List ℕ) → length x ≡ a .pool → 0 ≡ refusal (a .s) x (show (a .object) (a .page .0)) = λ x e. sym k ∙ c .before .before .before .before .before .show .ensures .0 x e in
+    let A = accepts-length (a .s) (a .pool) (a .object) (a .page .0) r in
+    let l : located (a .s) (line (a .object) (a .page .0)) ≡ Absent = rw (c .before .before .before .line-of .ensures) at (sym (c .before .before .locate .ensures) ∙ c .enum-told .given .1) in
+    (λ x e. ap frameIs (sym l) ∙ frame-shown (a .s) (c .before .before .before .before .before .show .ensures .1) (a .object) (a .page .0) x (r x e), tt)
+
+returns-3 : tie.Need-returns-3
+returns-3 c =
+    let a = c .before .before .before .before .before .before .before .args in
+    let k : c .before .before .before .before .before .before .show .result ≡ 0 = omega (arith, c .before .before .before .before .before .if1 .left) in
+    let r : (x : List ℕ) → length x ≡ a .pool → 0 ≡ refusal (a .s) x (show (a .object) (a .page .0)) = λ x e. sym k ∙ c .before .before .before .before .before .before .show .ensures .0 x e in
+    let A = accepts-length (a .s) (a .pool) (a .object) (a .page .0) r in
+    let q : Located = c .before .l .given .0 .0 in
+    let l : located (a .s) (line (a .object) (a .page .0)) ≡ Present q =
+    rw (c .before .before .before .before .line-of .ensures) at (sym (c .before .before .before .locate .ensures) ∙ c .before .l .given .1) in
+    let Z = c .before .before .before .before .before .before .show .ensures .1 in
+    (λ x e. ap frameIs (sym l) ∙ frame-shown (a .s) Z (a .object) (a .page .0) x (r x e), frame-inside (a .s) Z (a .object) (a .page .0) (a .pool) A q l)
+
+pub frame-shown-spec : {M : Type 1} → statement M
+frame-shown-spec =
+    tie.close
+    (tie.spec
+    show-requires
+    returns
+    line-of-requires
+    locate-requires
+    enum-told
+    enum-known-l
+    returns-2
+    returns-3)

@@ -1,0 +1,106 @@
+-- The page shown is the book's answer.
+use mathlib.Core.Path.{_≡_, refl, ap, sym, _∙_}
+use mathlib.Core.Bool.{true, false, not, false≢true}
+use mathlib.Core.Option.{none}
+use mathlib.Core.List.{List, [], _∷_}
+use Prim.Native.Nat.{ℕ, zero, suc, _+_, _*_, _≤_, _<_}
+use native.Mathlib.Omega.{arith}
+use lib.Dec.{leb}
+use lib.ListN.{length, replicate, length-replicate}
+use borrow.Author.Tests.{lt-ltb, le-leb, ne-eqb}
+use Rattle.store.specs.declared.Store.{Store}
+use Rattle.look.specs.declared.PageAt.{PageAt}
+use Rattle.look.specs.declared.PageAt.the-variants.{Absent, Present}
+use Rattle.look.specs.declared.Located.{Located}
+use Rattle.lists.specs.Test.{by-lt, by-eq}
+use Rattle.ranges.specs.Range.{line}
+use Rattle.book.specs.Book.{bytes, show, step, judged, perform, lowest, table, noPool, noObject, frameOf, shown}
+use Rattle.laws.specs.Accepted.{row}
+use Rattle.store.specs.Abs.{bookOf}
+use Rattle.store.specs.Sound.{Sound, Sized, sound?}
+use Rattle.store.specs.Iff.{sound-says}
+use Rattle.store.specs.Good.{sound-table}
+use Rattle.look.specs.Look.{located}
+use Rattle.look.specs.Found.{frameIs, pageIs, page-located, frame-located, located-below}
+use Rattle.refuse.specs.Refuse.{refusal}
+use Rattle.calls.specs.Calls.{sound-lowest, unsound-one, zero-sound}
+use Rattle.view.specs.View.{unrefused, frameShown, partOf}
+
+pub refused-none : (s : Store) (x : List ℕ) (o p k : ℕ) → 0 < k → k ≡ refusal s x (show o p) → none ≡ frameShown s x o p
+unfolding frameShown
+refused-none s x o p zero l r = absurd (omega arith)
+refused-none s x o p (suc k) l r = rw (← r)
+
+-- what a call that is not refused knows
+pub record Accepts (s : Store) (n o p : ℕ) : Type 0 where
+  pub sound : Sound s
+  pub pool : n ≡ s .frames * 4096
+  pub name : o < 32
+  pub page : p < 262144
+
+pub accepts : (s : Store) (x : List ℕ) (o p : ℕ) → 0 ≡ refusal s x (show o p) → Accepts s (length x) o p
+unfolding table bookOf
+accepts s x o p r =
+    let h = zero-sound (show o p) s x r in
+    let e = sound-lowest (show o p) s x 0 r h in
+    let d = row (noPool (bookOf s x)) 2 ((noObject (bookOf s x) o, 3) ∷ (leb 262144 p, 6) ∷ []) (omega arith) e in
+    let f = row (noObject (bookOf s x) o) 3 ((leb 262144 p, 6) ∷ []) (omega arith) (d .1) in
+    let g = row (leb 262144 p) 6 [] (omega arith) (f .1) in
+    record {
+      sound = sound-says s h;
+      pool = by-eq (length x) (s .frames * 4096) (λ z. z) (λ z. absurd (false≢true (sym (d .0) ∙ ap not (ne-eqb (length x) (s .frames * 4096) z))));
+      name = by-lt o 32 (λ l. l) (λ l. absurd (false≢true (sym (f .0) ∙ rw (lt-ltb 31 o (omega arith)))));
+      page = by-lt p 262144 (λ l. l) (λ l. absurd (false≢true (sym (g .0) ∙ le-leb 262144 p l)));
+    }
+
+-- for some pool of this length, so for the code that only has the length
+pub accepts-length : (s : Store) (n o p : ℕ) → ((x : List ℕ) → length x ≡ n → 0 ≡ refusal s x (show o p)) → Accepts s n o p
+accepts-length s n o p r =
+    let l = length-replicate {A = ℕ} n 0 in
+    rw l at (accepts s (replicate n 0) o p (r (replicate n 0) l))
+
+module _ (s : Store) (Z : Sized s) (o p : ℕ) where
+  room : Sound s → s .frames ≤ length (s .places)
+  room S = omega (arith, S .few-frames, Z .places)
+
+  pub frame-shown : (x : List ℕ) → 0 ≡ refusal s x (show o p) → frameIs (located s (line o p)) ≡ frameShown s x o p
+  unfolding frameShown
+  frame-shown x r =
+      let A = accepts s x o p r in
+      rw (← r) (sym (frame-located s (sound-table s Z (A .sound)) (room (A .sound)) o p x))
+
+  pub frame-inside : (n : ℕ) → Accepts s n o p → (l : Located) → located s (line o p) ≡ Present l → l .frame * 4096 + 4096 ≤ n
+  frame-inside n A l h =
+      let b = located-below s (sound-table s Z (A .sound)) (room (A .sound)) o p l h in
+      omega (arith, A .pool)
+
+  same-part : (x : List ℕ) (l : PageAt) → partOf x (frameIs l) ≡ shown (pageIs x l)
+  same-part x Absent = refl
+  same-part x (Present l) = refl
+
+  -- THE PART IS THE BOOK'S ANSWER, of a call that is refused too
+  pub show-book : (x : List ℕ) → sound? s ≡ true → bytes (partOf x (frameShown s x o p)) ≡ step (bookOf s x) (show o p) .answer
+  unfolding step frameShown
+  show-book x h = go (refusal s x (show o p)) refl
+    where
+      go : (k : ℕ) → k ≡ refusal s x (show o p)
+          → bytes (partOf x (unrefused (refusal s x (show o p)) (frameOf (bookOf s x) o p))) ≡ judged (lowest (table (bookOf s x) (show o p))) (bookOf s x) (show o p) .answer
+      go zero r =
+          let S = sound-says s h in
+          rw (← r, sound-lowest (show o p) s x 0 r h, frame-located s (sound-table s Z S) (room S) o p x)
+          (unfold perform in ap bytes (same-part x (located s (line o p)) ∙ ap shown (sym (page-located s (sound-table s Z S) (room S) o p x))))
+      go (suc k) r = rw (← r, sound-lowest (show o p) s x (suc k) r h)
+
+  pub show-spoiled : (x : List ℕ) → sound? s ≡ false → partOf x (frameShown s x o p) ≡ []
+  show-spoiled x h =
+      let k = unsound-one (show o p) s x (refusal s x (show o p)) refl h in
+      ap (partOf x) (sym (refused-none s x o p (refusal s x (show o p)) (omega arith) refl))
+
+-- showing changes nothing
+pub show-same : (s : Store) (x : List ℕ) (o p : ℕ) → bookOf s x ≡ step (bookOf s x) (show o p) .book
+unfolding step
+show-same s x o p = go (lowest (table (bookOf s x) (show o p)))
+  where
+    go : (k : ℕ) → bookOf s x ≡ judged k (bookOf s x) (show o p) .book
+    go zero = unfold perform in refl
+    go (suc k) = refl
