@@ -92,7 +92,7 @@ module _ (s : Store) (T : Table (s .ranges) (s .count)) (n : s .frames ≤ lengt
     where
       in-frame : (k : ℕ) → slotAt g (rangesOf (used s)) ≡ some (slotIn g (rangeOf (at k))) → (f : Frame) → frame k ≡ f
           → frameIn (cellsOf 4096 (s .frames) (s .places) x) (slotAt g (rangesOf (used s))) ≡ frameIs (inFrame k f)
-      in-frame k e Nothing h = rw e (found.absent 4096 (s .frames) (s .places) x (numberOf (at k .backing)) (indexIn (at k) g) n h .1)
+      in-frame k e Nothing h = rw e (found.absent-there 4096 (s .frames) (s .places) x (numberOf (at k .backing)) (indexIn (at k) g) n h .1)
       in-frame k e (At f) h = rw e (found.located 4096 (s .frames) (s .places) x (numberOf (at k .backing)) (indexIn (at k) g) n f h .frame)
 
       go : (c : Found) → coveringAt g (rangedOf (used s)) ≡ c → frameIn (cellsOf 4096 (s .frames) (s .places) x) (slotAt g (rangesOf (used s))) ≡ frameIs (inFound s g c)

@@ -8,7 +8,6 @@ pub mod Iff
 pub mod Kinds
 pub mod Live
 pub mod Located
-pub mod Look
 pub mod Looked
 pub mod Loops
 pub mod Members

@@ -104,8 +104,8 @@ module _ (size n : ℕ) (ps : List Place) (x : List ℕ) (b i : ℕ) (m : n ≤ 
       rw q (located-first (F .at) (omega (arith, F .inside, length-take-le n ps m)) (F .stands) (F .before))
 
   -- nothing is found: the page is absent
-  pub absent : places.frameAt b i 0 (take n ps) ≡ Nothing → (bytesAt (slot b i) (cellsOf size n ps x) ≡ none) × (cell.frameAt (slot b i) 0 (cellsOf size n ps x) ≡ none)
-  absent e =
+  pub absent-there : places.frameAt b i 0 (take n ps) ≡ Nothing → (bytesAt (slot b i) (cellsOf size n ps x) ≡ none) × (cell.frameAt (slot b i) 0 (cellsOf size n ps x) ≡ none)
+  absent-there e =
       let t = length-take-le n ps m in
       let c = length-cells size n ps x in
       let h : (j : ℕ) → j < length (cellsOf size n ps x) → isAt (slot b i) (getD (cellsOf size n ps x) j free) ≡ false =

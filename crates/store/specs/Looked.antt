@@ -18,7 +18,7 @@ use Rattle.book.specs.Book.{entry}
 use Rattle.places.specs.Places.{frameAt}
 use Rattle.table.specs.Table.{Table, numberOf, ranged, rangedOf, rangeOf, rangesOf, zeroRange, coveringAt}
 use Rattle.store.specs.Abs.{used, bookOf}
-use Rattle.store.specs.Look.{slot, bytesBy, found-at}
+use Rattle.store.specs.Located.{located, absent-there}
 use Rattle.store.specs.Tabled.{Covered, covered-missing, covered-at}
 
 module _ (s : Store) (T : Table (s .ranges) (s .count)) (n : s .frames ≤ length (s .places)) (o p : ℕ) (x : List ℕ) where
@@ -32,14 +32,6 @@ module _ (s : Store) (T : Table (s .ranges) (s .count)) (n : s .frames ≤ lengt
   abbrev index : ℕ → ℕ
   index k = at k .offset + (g - from (ranged (at k)))
 
-  -- the page's bytes, in the range that covers it
-  covered-page : (k : ℕ) → coveringAt g (rangedOf (used s)) ≡ found.At k
-      → pageOf g (entry (bookOf s x)) ≡ bytesBy (λ f. bytes.frameAt 4096 x f) (frameAt (numberOf (at k .backing)) (index k) 0 (take (s .frames) (s .places)))
-  unfolding pageOf entry bookOf
-  covered-page k e =
-      let C : Covered (s .ranges) (s .count) T g k = covered-at (s .ranges) (s .count) T g k e in
-      rw (C .slot) (found-at 4096 (numberOf (at k .backing)) (index k) (s .frames) (s .places) x n)
-
   -- no range covers the page
   pub page-missing : coveringAt g (rangedOf (used s)) ≡ found.Missing → pageOf g (entry (bookOf s x)) ≡ none
   unfolding pageOf entry bookOf
@@ -48,12 +40,14 @@ module _ (s : Store) (T : Table (s .ranges) (s .count)) (n : s .frames ≤ lengt
   -- no frame stands at its index
   pub page-hole : (k : ℕ) → coveringAt g (rangedOf (used s)) ≡ found.At k → frameAt (numberOf (at k .backing)) (index k) 0 (take (s .frames) (s .places)) ≡ Nothing
       → pageOf g (entry (bookOf s x)) ≡ none
-  page-hole k e f = covered-page k e ∙ ap (λ z. bytesBy (λ j. bytes.frameAt 4096 x j) z) f
+  unfolding pageOf entry bookOf
+  page-hole k e f = rw (covered-at (s .ranges) (s .count) T g k e .slot) (absent-there 4096 (s .frames) (s .places) x (numberOf (at k .backing)) (index k) n f .0)
 
   -- a frame does
   pub page-there : (k f : ℕ) → coveringAt g (rangedOf (used s)) ≡ found.At k → frameAt (numberOf (at k .backing)) (index k) 0 (take (s .frames) (s .places)) ≡ At f
       → pageOf g (entry (bookOf s x)) ≡ some (bytes.frameAt 4096 x f)
-  page-there k f e h = covered-page k e ∙ ap (λ z. bytesBy (λ j. bytes.frameAt 4096 x j) z) h
+  unfolding pageOf entry bookOf
+  page-there k f e h = rw (covered-at (s .ranges) (s .count) T g k e .slot) (located 4096 (s .frames) (s .places) x (numberOf (at k .backing)) (index k) n f h .bytes)
 
   -- THE STATE of the page
   pub look-missing : coveringAt g (rangedOf (used s)) ≡ found.Missing → absent ≡ stateOf o p (entry (bookOf s x))

@@ -15,13 +15,8 @@ use Rattle.ranges.specs.Range.{Range, Ranged, from, upto, slotIn, slotAt}
 use Rattle.ranges.specs.Reback.{reback, reback-rising}
 use Rattle.ranges.specs.Search.{startsBefore, starts-in, previous-is, slot-previous, slotOf, lastOf}
 use Rattle.table.specs.Table.{Table, numberOf, ranged, rangedOf, rangeOf, rangesOf, zeroRange, coveringAt, reaching}
+use Rattle.store.specs.Ranges.{ranges-ranged}
 use Rattle.table.specs.Searching.{used-at, starts-count}
-
--- the same ranges, with their backings and with their numbers
-rebacked : (l : List PageRange) → map (reback numberOf) (rangedOf l) ≡ rangesOf l
-unfolding rangedOf rangesOf
-rebacked [] = refl
-rebacked (r ∷ l) = ap (λ k. rangeOf r ∷ k) (rebacked l)
 
 starts-reback : (g : ℕ) (l : List (Ranged BackingPages)) → startsBefore g (map (reback numberOf) l) ≡ startsBefore g l
 unfolding startsBefore
@@ -37,11 +32,11 @@ module _ (R : List PageRange) (count : ℕ) (T : Table R count) (g : ℕ) where
   us = rangedOf (take count R)
 
   same-starts : startsBefore (suc g) rs ≡ startsBefore (suc g) us
-  same-starts = ap (λ l. startsBefore (suc g) l) (sym (rebacked (take count R))) ∙ starts-reback (suc g) us
+  same-starts = ap (λ l. startsBefore (suc g) l) (ranges-ranged (take count R)) ∙ starts-reback (suc g) us
 
   at-slot : slotAt g rs ≡ slotOf g (lastOf (rangeOf zeroRange) (startsBefore (suc g) us) rs)
   at-slot =
-      slot-previous g 0 rs (rw (rebacked (take count R)) at (reback-rising numberOf 0 us (T .rising)))
+      slot-previous g 0 rs (rw (← ranges-ranged (take count R)) at (reback-rising numberOf 0 us (T .rising)))
       ∙ ap (λ o. slotOf g o) (previous-is (rangeOf zeroRange) g rs ∙ ap (λ n. lastOf (rangeOf zeroRange) n rs) same-starts)
 
   range-at : (i : ℕ) → i < count → getD rs i (rangeOf zeroRange) ≡ rangeOf (getD R i zeroRange)

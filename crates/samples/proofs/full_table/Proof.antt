@@ -1,8 +1,8 @@
--- `store_cases::full_table` meets its contract. The loop's invariant keeps the index within the array. The measure is the number of entries left.
+-- `samples::full_table` meets its contract. The loop's invariant keeps the index within the array. The measure is the number of entries left.
 use Prim.Native.Nat.{_-_, _≤_}
 use borrow.Author.Needs.{needs}
-use Rattle.store_cases.proofs.full_table.Statement.{statement}
-use Rattle.store_cases.proofs.full_table.Tie as tie
+use Rattle.samples.proofs.full_table.Statement.{statement}
+use Rattle.samples.proofs.full_table.Tie as tie
 
 abbrev Inv-loop : tie.InvT-loop
 Inv-loop a₀ k₀ a k = k ≤ 512

@@ -1,8 +1,8 @@
--- `store_cases::same_words` meets its contract. The loop's invariant keeps the index within the array. The measure is the number of entries left.
+-- `samples::same_words` meets its contract. The loop's invariant keeps the index within the array. The measure is the number of entries left.
 use Prim.Native.Nat.{_-_, _≤_}
 use borrow.Author.Needs.{needs}
-use Rattle.store_cases.proofs.same_words.Statement.{statement}
-use Rattle.store_cases.proofs.same_words.Tie as tie
+use Rattle.samples.proofs.same_words.Statement.{statement}
+use Rattle.samples.proofs.same_words.Tie as tie
 
 abbrev Inv-loop : tie.InvT-loop
 Inv-loop a b right₀ k₀ right k = k ≤ 16
