@@ -3,8 +3,9 @@ use mathlib.Core.Path.{_≡_, refl, ap, ap₂, _∙_}
 use mathlib.Core.Bool.{true}
 use mathlib.Core.List.{List, [], _∷_}
 use Prim.Native.Nat.{ℕ}
+use lib.ListN.{length}
 use Rattle.store.specs.declared.Store.{Store}
-use Rattle.book.specs.Book.{Call, show, Answer, bytes, step, answers, after}
+use Rattle.book.specs.Book.{Call, show, Answer, done, bytes, step, answers, after, create, created}
 use Rattle.store.specs.Abs.{bookOf}
 use Rattle.store.specs.Sound.{Sized, sound?}
 use Rattle.calls.specs.Calls.{Did, said}
@@ -41,3 +42,11 @@ list-law x s u cs ans (showed {o = o} {p = p} {cs = ds} {ans = bs} Z r) h =
       left = R .left ∙ ap (λ b. after b ds) e;
       sound = R .sound;
     }
+
+-- FROM A STORE AS CREATED, with whatever number of frames was asked for
+pub created-law : (x : List ℕ) (frames k : ℕ) (s u : Store) (cs : List Call) (ans : List Answer) → record { answer = said k done; book = bookOf s x } ≡ create frames (length x)
+    → sound? s ≡ true → Ran x s cs ans u → (ans ≡ answers (created frames (length x)) cs) × (bookOf u x ≡ after (created frames (length x)) cs)
+created-law x frames k s u cs ans e h r =
+    let R = list-law x s u cs ans r h in
+    let b : bookOf s x ≡ created frames (length x) = ap (λ d. d .book) e in
+    (R .answered ∙ ap (λ z. answers z cs) b, R .left ∙ ap (λ z. after z cs) b)

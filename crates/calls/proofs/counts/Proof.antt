@@ -24,7 +24,7 @@ used-count-requires c κs =
     let a = c .before .before .before .args in
     let k : c .before .before .counts .result ≡ 0 = omega (arith, c .before .if1 .left) in
     let r : (x : List ℕ) → 0 ≡ refusal (a .s) x (counts) = λ x. sym k ∙ c .before .before .counts .ensures .0 x in
-    was-sound counts (a .s) r .few-frames
+    omega (arith, was-sound counts (a .s) r .few-frames)
 
 returns-2 : tie.Need-returns-2
 returns-2 c =
