@@ -205,3 +205,8 @@ unfoldable pub poolAfter : ℕ → List Cell → List ℕ → List ℕ
 poolAfter size [] old = old
 poolAfter size (free ∷ cs) old = take size old ++ poolAfter size cs (drop size old)
 poolAfter size (holds b i x ∷ cs) old = x ++ poolAfter size cs (drop size old)
+
+-- the pool after a list of calls
+unfoldable pub pools : Book → List Call → List ℕ → List ℕ
+pools b [] x = x
+pools b (c ∷ cs) x = pools (step b c .book) cs (poolAfter (b .size) (step b c .book .cells) x)

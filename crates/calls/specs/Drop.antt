@@ -6,8 +6,6 @@ use Prim.Native.Nat.{ℕ, _+_, _-_, _*_, _%_, _^_, _≤_, _<_}
 use native.Mathlib.Omega.{arith}
 use lib.ListN.{length, length-map}
 use lib.Bits.{bitAnd}
-use Rattle.book.specs.Sound as book
-use Rattle.edit.specs.declared.RangeTable.{RangeTable}
 use Rattle.store.specs.declared.Store.{Store}
 use Rattle.ranges.specs.Range.{line, carve}
 use Rattle.ranges.specs.Reback.{reback, carve-reback}
@@ -17,7 +15,7 @@ use Rattle.laws.specs.Accepted.{drop-rows}
 use Rattle.places.specs.Places.{FreeMap}
 use Rattle.table.specs.Table.{rangesOf, rangedOf, numberOf}
 use Rattle.edit.specs.Edit.{cutTable}
-use Rattle.store.specs.Abs.{used, bookOf}
+use Rattle.store.specs.Abs.{used, tableOf, bookOf}
 use Rattle.store.specs.Sound.{Sound, Sized}
 use Rattle.store.specs.Edits.{trimmed, trim-places}
 use Rattle.store.specs.Ranges.{ranges-ranged, cut-ranges, cut-rest}
@@ -30,9 +28,6 @@ use Rattle.store.specs.Back.{Besides, sound-besides}
 use Rattle.refuse.specs.Refuse.{refusal}
 use Rattle.calls.specs.Calls.{Did, did-done}
 use Rattle.calls.specs.Kept.{was-sound, accepted, left-sound, still-sound}
-
-abbrev pub tableOf : Store → RangeTable
-tableOf t = record { ranges = t .ranges; count = t .count }
 
 -- "its ranges go, entries in no window go, frames become free"
 pub record Dropped (s : Store) (o : ℕ) (t : Store) : Type 0 where

@@ -1,19 +1,15 @@
 -- What each call that is done has done.
 use mathlib.Core.Path.{_≡_, ap, ap₂, sym, _∙_}
-use mathlib.Core.Bool.{false≢true}
-use mathlib.Core.List.{List, [], _∷_}
+use mathlib.Core.List.{List, []}
 use Prim.Native.Nat.{ℕ, _*_, _%_, _^_, _<_}
 use native.Mathlib.Omega.{arith}
 use lib.ListN.{take}
-use lib.Dec.{leb}
-use borrow.Author.Tests.{lt-ltb, le-leb}
 use lib.Bits.{bitOr}
 use Rattle.store.specs.declared.Store.{Store}
 use Rattle.look.specs.declared.State.{State}
-use Rattle.lists.specs.Test.{by-lt}
 use Rattle.ranges.specs.Range.{line}
-use Rattle.book.specs.Book.{newObject, lookUp, counts, done, state, numbers, noObject, table, perform}
-use Rattle.laws.specs.Accepted.{row, new-rows}
+use Rattle.book.specs.Book.{newObject, lookUp, counts, done, state, numbers, perform}
+use Rattle.laws.specs.Accepted.{look-rows, new-rows}
 use Rattle.places.specs.Places.{usedCount}
 use Rattle.store.specs.Abs.{bookOf}
 use Rattle.store.specs.Sound.{Sized}
@@ -29,14 +25,10 @@ use Rattle.calls.specs.Kept.{was-sound, accepted, still-sound}
 
 -- what the rows say
 pub look-page : (s : Store) (o p : ℕ) → ((x : List ℕ) → 0 ≡ refusal s x (lookUp o p)) → (o < 32) × (p < 262144)
-unfolding table bookOf
+unfolding bookOf
 look-page s o p r =
-    let e = accepted (lookUp o p) s r [] in
-    let f = row (noObject (bookOf s []) o) 3 ((leb 262144 p, 6) ∷ []) (omega arith) e in
-    let g = row (leb 262144 p) 6 [] (omega arith) (f .1) in
-    by-lt o 32
-    (λ l. by-lt p 262144 (λ h. (l, h)) (λ h. absurd (false≢true (sym (g .0) ∙ le-leb 262144 p h))))
-    (λ l. absurd (false≢true (sym (f .0) ∙ rw (lt-ltb 31 o (omega arith)))))
+    let R = look-rows (bookOf s []) o p (accepted (lookUp o p) s r []) in
+    (R .0 .small, R .1)
 
 pub new-name : (s : Store) (o : ℕ) → ((x : List ℕ) → 0 ≡ refusal s x (newObject o)) → o < 32
 new-name s o r = new-rows (bookOf s []) o (accepted (newObject o) s r []) .0

@@ -8,18 +8,13 @@ use lib.Dec.{leb}
 use lib.ListN.{length, replicate}
 use borrow.Author.Tests.{leb-true}
 use Rattle.store.specs.declared.Store.{Store}
-use Rattle.lists.specs.Every.{All, both-true}
+use Rattle.lists.specs.Every.{both-true}
 use Rattle.book.specs.Book.{done, refused, create}
 use Rattle.places.specs.Places.{placeAt, nowhere}
 use Rattle.store.specs.Abs.{bookOf}
 use Rattle.store.specs.Sound.{sound?}
 use Rattle.store.specs.Iff.{says-sound}
 use Rattle.store.specs.Empty.{Blank, empty-book, empty-sound}
-
-pub all-same : {A : Type 0} (a b : A) (n : ℕ) → a ≡ b → All (λ r. r ≡ b) (replicate n a)
-unfolding All
-all-same a b zero e = tt
-all-same a b (suc n) e = (e, all-same a b n e)
 
 pub nowhere-all : (n f : ℕ) → placeAt (replicate n nowhere) f ≡ nowhere
 nowhere-all zero f = refl

@@ -113,12 +113,13 @@ fn empty_store(frames: usize) -> Store
     };
     let places = [p; 1024];
     let free = places::free_map(places, frames);
-    let z = table::zero_range();
+    let t = edit::empty_table();
+    let ranges = t.ranges;
     Store {
         frames,
         live: 0,
-        count: 0,
-        ranges: [z; 512],
+        count: t.count,
+        ranges,
         places,
         free,
     }

@@ -1,15 +1,15 @@
 -- What a call that is not refused may rely on: the rows of its table that do not apply, in words.
 use mathlib.Core.Path.{_≡_, refl}
 use mathlib.Core.Bool.{Bool, true, false, not, _||_, true≢false}
-use mathlib.Core.List.{List, _∷_}
-use Prim.Native.Nat.{ℕ, zero, suc, _+_, _/_, _%_, _≤_, _<_}
+use mathlib.Core.List.{List, [], _∷_}
+use Prim.Native.Nat.{ℕ, zero, suc, _+_, _*_, _/_, _%_, _≤_, _<_}
 use native.Mathlib.Omega.{arith}
 use lib.Dec.{ltb, eqb}
 use lib.ListN.{length, getD}
 use borrow.Author.Tests.{ltb-false, leb-false, eqb-true, eqb-false}
 use Rattle.book.specs.Page.{objectBytes}
 use Rattle.book.specs.Need.{Need, needAdd, needWrite, needCopy, needShadow, needZero}
-use Rattle.book.specs.Book.{Book, Call, newObject, dropObject, add, write, copy, shadow, zeroOut, Table, lowest, entry, perform, table, pastPage, pastEnd, noPool, noObject, notWhole, lacking, declined, judged, step}
+use Rattle.book.specs.Book.{Book, Call, newObject, dropObject, add, lookUp, show, read, write, copy, shadow, zeroOut, Table, lowest, entry, perform, table, pastPage, pastEnd, noPool, noObject, notWhole, lacking, declined, judged, step}
 
 -- the call is not refused
 abbrev pub Accepted : Book → Call → Type 0
@@ -29,7 +29,7 @@ refused-step b c ne = go (lowest (table b c)) ne
     go (suc k) h = refl
 
 -- a row that does not apply, and those after it
-pub row : (t : Bool) (k : ℕ) (rs : Table) → 0 < k → lowest ((t, k) ∷ rs) ≡ 0 → (t ≡ false) × (lowest rs ≡ 0)
+row : (t : Bool) (k : ℕ) (rs : Table) → 0 < k → lowest ((t, k) ∷ rs) ≡ 0 → (t ≡ false) × (lowest rs ≡ 0)
 unfolding lowest
 row true k rs h e = absurd (omega arith)
 row false k rs h e = (refl, e)
@@ -41,6 +41,10 @@ neither false b e = (refl, e)
 untrue : (t : Bool) → not t ≡ false → t ≡ true
 untrue true e = refl
 untrue false e = absurd (true≢false e)
+
+-- row 2: the pool has all frames
+pub pool-row : (b : Book) (rs : Table) → lowest ((noPool b, 2) ∷ rs) ≡ 0 → b .pool ≡ b .frames * b .size
+pool-row b rs e = eqb-true (b .pool) (b .frames * b .size) (untrue _ (row (noPool b) 2 rs (omega arith) e .0))
 
 -- a name that is live
 pub record Live (b : Book) (o : ℕ) : Type 0 where
@@ -63,9 +67,9 @@ room-rows b k e =
     let s = row (ltb 512 (length (entry b .ranges) + k .slots)) 9 _ (omega arith) (r .1) in
     record { frames = ltb-false _ _ (r .0); slots = ltb-false 512 _ (s .0) }
 
--- of a call on one object: it is live, and what else the table asks
+-- of a call on one object: the pool is that of the frames, the object is live, and what else the table asks
 pub record One (b : Book) (o : ℕ) (t : Bool) (rs : Table) : Type 0 where
-  pub pool : noPool b ≡ false
+  pub pool : b .pool ≡ b .frames * b .size
   pub live : Live b o
   pub inside : t ≡ false
   pub rest : lowest rs ≡ 0
@@ -75,10 +79,11 @@ one-rows b o t rs e =
     let p = row (noPool b) 2 _ (omega arith) e in
     let q = row (noObject b o) 3 _ (omega arith) (p .1) in
     let r = row t 6 _ (omega arith) (q .1) in
-    record { pool = p .0; live = live-row b o (q .0); inside = r .0; rest = r .1 }
+    record { pool = pool-row b _ e; live = live-row b o (q .0); inside = r .0; rest = r .1 }
 
 -- of a call on a span of one object
 pub record Span (b : Book) (o x n : ℕ) (k : Need) : Type 0 where
+  pub pool : b .pool ≡ b .frames * b .size
   pub live : Live b o
   pub ends : x + n ≤ objectBytes
   pub room : Room b k
@@ -86,7 +91,7 @@ pub record Span (b : Book) (o x n : ℕ) (k : Need) : Type 0 where
 span-rows : (b : Book) (o x n : ℕ) (k : Need) → lowest ((noPool b, 2) ∷ (noObject b o, 3) ∷ (pastEnd x n, 6) ∷ lacking (entry b) k) ≡ 0 → Span b o x n k
 span-rows b o x n k e =
     let A = one-rows b o (pastEnd x n) (lacking (entry b) k) e in
-    record { live = A .live; ends = ltb-false objectBytes (x + n) (A .inside); room = room-rows b k (A .rest) }
+    record { pool = A .pool; live = A .live; ends = ltb-false objectBytes (x + n) (A .inside); room = room-rows b k (A .rest) }
 
 pub write-rows : (b : Book) (o x : ℕ) (d : List ℕ) → Accepted b (write o x d) → Span b o x (length d) (needWrite o x (length d) (entry b))
 unfolding table
@@ -98,6 +103,7 @@ zero-rows b o x n e = span-rows b o x n (needZero o x n (entry b)) e
 
 -- of an added page
 pub record Page (b : Book) (o p : ℕ) : Type 0 where
+  pub pool : b .pool ≡ b .frames * b .size
   pub live : Live b o
   pub ends : p < objectBytes / b .size
   pub room : Room b needAdd
@@ -106,7 +112,26 @@ pub add-rows : (b : Book) (o p : ℕ) → Accepted b (add o p) → Page b o p
 unfolding table
 add-rows b o p e =
     let A = one-rows b o (pastPage b p) (lacking (entry b) needAdd) e in
-    record { live = A .live; ends = leb-false (objectBytes / b .size) p (A .inside); room = room-rows b needAdd (A .rest) }
+    record { pool = A .pool; live = A .live; ends = leb-false (objectBytes / b .size) p (A .inside); room = room-rows b needAdd (A .rest) }
+
+-- of the calls that only look
+pub look-rows : (b : Book) (o p : ℕ) → Accepted b (lookUp o p) → Live b o × (p < objectBytes / b .size)
+unfolding table
+look-rows b o p e =
+    let r = row (noObject b o) 3 _ (omega arith) e in
+    (live-row b o (r .0), leb-false (objectBytes / b .size) p (row (pastPage b p) 6 _ (omega arith) (r .1) .0))
+
+pub show-rows : (b : Book) (o p : ℕ) → Accepted b (show o p) → (b .pool ≡ b .frames * b .size) × Live b o × (p < objectBytes / b .size)
+unfolding table
+show-rows b o p e =
+    let A = one-rows b o (pastPage b p) [] e in
+    (A .pool, A .live, leb-false (objectBytes / b .size) p (A .inside))
+
+pub read-rows : (b : Book) (o x n : ℕ) → Accepted b (read o x n) → (b .pool ≡ b .frames * b .size) × Live b o × (x + n ≤ objectBytes)
+unfolding table
+read-rows b o x n e =
+    let A = one-rows b o (pastEnd x n) [] e in
+    (A .pool, A .live, ltb-false objectBytes (x + n) (A .inside))
 
 -- of a copy of either kind
 pub record Pair (b : Book) (s x o y n : ℕ) (rs : Table) : Type 0 where

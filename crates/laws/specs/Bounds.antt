@@ -31,7 +31,7 @@ use Rattle.laws.specs.FileLaw.{all-frames}
 use Rattle.laws.specs.Spans.{pages-in, object-in}
 
 -- a span of whole pages has neither head nor tail
-span-whole : (size x n : ℕ) → x % size ≡ 0 → spanOf size x n ≡ record { head = 0; whole = n / size; tail = n % size }
+pub span-whole : (size x n : ℕ) → x % size ≡ 0 → spanOf size x n ≡ record { head = 0; whole = n / size; tail = n % size }
 unfolding spanOf
 span-whole size x n e =
     let z : (size - x % size) % size ≡ 0 = ap (λ m. (size - m) % size) e ∙ rw sub-zero (mod-self size) in

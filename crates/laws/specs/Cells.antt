@@ -20,7 +20,7 @@ use Rattle.book.specs.Cell.{Cell, free, holds, isAt, bytesAt, kept, trim, empti
 abbrev pub Differ : Slot → Slot → Type 0
 Differ s t = s .inside ≡ t .inside → s .index ≡ t .index → ⊥
 
-apart : (s : Slot) (b i : ℕ) (x : List ℕ) → (b ≡ s .inside → i ≡ s .index → ⊥) → isAt s (holds b i x) ≡ false
+pub apart : (s : Slot) (b i : ℕ) (x : List ℕ) → (b ≡ s .inside → i ≡ s .index → ⊥) → isAt s (holds b i x) ≡ false
 apart s b i x h =
     by-test (isAt s (holds b i x))
     (λ t. absurd (h (eqb-true b (s .inside) (and-left _ _ t)) (eqb-true i (s .index) (and-right (eqb b (s .inside)) _ t))))
@@ -110,9 +110,6 @@ set-here s x (holds b i y ∷ cs) (suc f) h e =
     by-test (isAt s (holds b i y))
     (λ t. absurd (let z : some y ≡ none = rw t at e in let u : _≡_ {A = ℕ} 0 1 = cc in omega arith))
     (λ t. rw t (set-here s x cs f (omega arith) (rw t at e)))
-
-pub slot-path : (s t : Slot) → s .inside ≡ t .inside → s .index ≡ t .index → s ≡ t
-slot-path s t p q = λ i. record { inside = p i; index = q i }
 
 -- ---- which cells are in use afterwards: frame f holds index i of backing b, with the bytes x
 

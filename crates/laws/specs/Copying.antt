@@ -154,14 +154,17 @@ module _ (s x o y n : ℕ) (w : Work) (G : Good w) (hs : 4096 ≤ w .size) (othe
   abbrev meets : ℕ
   meets = 2 * met s ((x + P .head) / w .size) (P .whole) w
 
+  pub to-u : Cost head-takes (2 * head-takes) w u
+  to-u = rw head-wanted at (bytes-cost x y (P .head) w (here w G hs) (omega (arith, sum)))
+
   pub to-v : Cost head-takes (2 * head-takes + meets) w v
   to-v =
       cost-sum head-takes (2 * head-takes) 0 meets head-takes (2 * head-takes + meets) w u v (omega arith) (omega arith)
-      (rw head-wanted at (bytes-cost x y (P .head) w (here w G hs) (omega (arith, sum))))
+      to-u
       (rw (← beside .meets s ((x + P .head) / w .size) (P .whole) other p-bound)
       (sharing-cost s ((x + P .head) / w .size) o ((y + P .head) / w .size) (P .whole) u q-bound (KU .good .whole .rising)))
 
-  counts : partly P each ph (P .head) + partly P each pt (P .tail) ≡ countedParts each (w .size) y n
+  pub counts : partly P each ph (P .head) + partly P each pt (P .tail) ≡ countedParts each (w .size) y n
   unfolding countedParts
   counts = rw same
 

@@ -52,7 +52,7 @@ module _ (o p : ℕ) (w u : Work) (hp : p < 262144) (K : Kept w u) where
   pub add-kept : Kept w (addPage o p u)
   add-kept = way-kept o p (blank u) w u _ (addPage-way o p u (K .good .whole) hp) (length-replicate (u .size) 0) K
 
-  made-kept : Kept w (writable o p u)
+  pub made-kept : Kept w (writable o p u)
   made-kept = way-kept o p _ w u _ (writable-way o p u (K .good .whole) hp) (seen-length (line o p) u (K .good .fits)) K
 
   pub page-kept : (f : List ℕ → List ℕ) → Keeps (w .size) f → Kept w (writePage o p f u)

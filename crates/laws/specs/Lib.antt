@@ -35,3 +35,5 @@ pub mod PageSpan
 pub mod Presents
 pub mod PresentCopy
 pub mod PresenceLaw
+pub mod Frames
+pub mod Turn

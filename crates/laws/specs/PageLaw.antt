@@ -16,7 +16,7 @@ use Rattle.ranges.specs.Over.{put-in, put-hit, put-keeps, put-other}
 use Rattle.ranges.specs.Hold.{held-once, holders-put}
 use Rattle.book.specs.Cell.{Cell, free, edit, changed}
 use Rattle.book.specs.Work.{Work, next, slotBytes, pageOf, settle, seen, writable, edited, writePage}
-use Rattle.laws.specs.Cells.{edit-at, Edited, edit-here, edit-other}
+use Rattle.laws.specs.Cells.{Differ, edit-at, Edited, edit-here, edit-other}
 use Rattle.laws.specs.State.{Ordered, Tight, Fits, Apart, Good, spare-keep}
 use Rattle.laws.specs.Settle.{settle-bytes, settle-here, settle-out, settle-tight, settle-fits, settle-apart, settle-ordered}
 use Rattle.laws.specs.Way.{Private, Way, as-is, settled, writable-way}
@@ -172,6 +172,14 @@ only w r g s m h e b =
     let z : r ≡ F .r = held-once (r .backing) (w .ranges) r (F .r) h m (F .mem) refl (sym b ∙ ap (λ t. t .inside) (F .is)) in
     (rw z (F .low), rw z (F .high), rw z (F .is))
 
+-- no other page is at the slot of a page that is private
+pub private-differ : (o p : ℕ) (v : Work) (P : Private o p v) (g : ℕ) → (g ≡ line o p → ⊥) → (s : Slot) → slotAt g (v .ranges) ≡ some s → Differ s (slotIn (line o p) (P .r))
+private-differ o p v P g ne s e b j =
+    let q = only v (P .r) g s (P .mem) (P .once) e b in
+    let L = only v (P .r) (line o p) (slotIn (line o p) (P .r)) (P .mem) (P .once) (P .slot) refl in
+    let k : s .index ≡ slotIn g (P .r) .index = ap (λ x. x .index) (q .2) in
+    ne (omega (arith, q .0, q .1, L .0, L .1, j, k))
+
 module _ (o p : ℕ) (f : List ℕ → List ℕ) (v : Work) (P : Private o p v) where
   abbrev sl : Slot
   sl = slotIn (line o p) (P .r)
@@ -182,12 +190,7 @@ module _ (o p : ℕ) (f : List ℕ → List ℕ) (v : Work) (P : Private o p v) 
     where
       go : (t : Option Slot) → slotAt g (v .ranges) ≡ t → slotBytes (edit sl f (v .cells)) t ≡ slotBytes (v .cells) t
       go none e = refl
-      go (some s) e =
-          edit-other sl s f (v .cells)
-          (λ b j. let q = only v (P .r) g s (P .mem) (P .once) e b in
-          let L = only v (P .r) (line o p) sl (P .mem) (P .once) (P .slot) refl in
-          let k : s .index ≡ slotIn g (P .r) .index = ap (λ x. x .index) (q .2) in
-          ne (omega (arith, q .0, q .1, L .0, L .1, j, k)))
+      go (some s) e = edit-other sl s f (v .cells) (private-differ o p v P g ne s e)
 
   pub edited-here : pageOf (line o p) (edited (slotAt (line o p) (v .ranges)) f v) ≡ Option·map f (pageOf (line o p) v)
   unfolding pageOf

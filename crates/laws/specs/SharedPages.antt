@@ -163,7 +163,3 @@ share-spare (n ∷ ns) w = share-spare ns (withRanges (put n (w .ranges)) w)
 pub sharing-none : (s p o q : ℕ) (w : Work) → sharing s p o q 0 w ≡ w
 unfolding sharing share
 sharing-none s p o q w = rw (parts-none (line s p) (w .ranges))
-
-pub sharing-spare : (s p o q n : ℕ) (w : Work) → sharing s p o q n w .spare ≡ w .spare
-unfolding sharing
-sharing-spare s p o q n w = share-spare _ w

@@ -98,7 +98,7 @@ module _ (o x n : ℕ) (w : Work) (G : Good w) (hs : 4096 ≤ w .size) (h : x + 
   abbrev v : Work
   v = uncover o ((x + P .head) / w .size) (P .whole) u
 
-  KU : Kept w u
+  pub KU : Kept w u
   KU = clear-kept w G hs o x (P .head) w (here w G hs) (head-fits (w .size) x n ps) (omega (arith, sum))
 
   pub KV : Kept w v
@@ -119,12 +119,12 @@ module _ (o x n : ℕ) (w : Work) (G : Good w) (hs : 4096 ≤ w .size) (h : x + 
   pub head-counts : head-takes ≤ partly P each ph (P .head)
   head-counts = partly-least P each ph (P .head) (each ph) (common-small (stateOf o ph w)) (λ _ _. le-refl _)
 
-  tail-counts : tail-takes ≤ partly P each pt (P .tail)
+  pub tail-counts : tail-takes ≤ partly P each pt (P .tail)
   tail-counts =
       partly-least P each pt (P .tail) (common (stateOf o pt v)) (common-small (stateOf o pt v))
       (λ k z. rw (no-middle z) (later-less o x (P .head) w G hs (omega (arith, sum)) pt (λ l. tail-apart (w .size) x n ps l k)))
 
-  to-v : Cost head-takes (2 * head-takes + min 1 (P .whole)) w v
+  pub to-v : Cost head-takes (2 * head-takes + min 1 (P .whole)) w v
   to-v =
       cost-sum head-takes (2 * head-takes) 0 (min 1 (P .whole)) head-takes (2 * head-takes + min 1 (P .whole)) w u v (omega arith) (omega arith)
       (clear-cost o x w G hs (P .head) (omega (arith, sum)))

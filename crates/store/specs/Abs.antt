@@ -6,6 +6,7 @@ use lib.Dec.{eqb}
 use lib.ListN.{length, take}
 use Rattle.table.specs.declared.PageRange.{PageRange}
 use Rattle.places.specs.declared.Place.{Place}
+use Rattle.edit.specs.declared.RangeTable.{RangeTable}
 use Rattle.store.specs.declared.Store.{Store}
 use Rattle.lists.specs.Test.{pick}
 use Rattle.lists.specs.Listed.{listed}
@@ -18,6 +19,10 @@ use Rattle.pool.specs.Bytes.{frameAt}
 -- the used slots of the table
 abbrev pub used : Store → List PageRange
 used s = take (s .count) (s .ranges)
+
+-- the table of ranges
+abbrev pub tableOf : Store → RangeTable
+tableOf s = record { ranges = s .ranges; count = s .count }
 
 -- what a frame that stands there is in the book: free, or at a backing and an index, with its bytes
 unfoldable pub cellOf : Place → List ℕ → Cell

@@ -6,8 +6,8 @@ use Prim.Native.Nat.{ℕ, zero, suc, _+_, _*_, _≤_, _<_}
 use native.Mathlib.Omega.{arith}
 use native.Mathlib.Nat.{le-of-suc-le-suc, not-suc-le-zero}
 use lib.Dec.{eqb, ltb}
-use lib.ListN.{length, getD, take, drop, set, replicate, length-map, length-replicate, List·getD-append, length-drop}
-use lib.Seq.{getD-set-other, getD-set-same, getD-take, length-take-le, paste, take-all}
+use lib.ListN.{length, getD, take, drop, set, length-map, List·getD-append}
+use lib.Seq.{getD-set-other, getD-set-same, getD-take, length-take-le, paste}
 use borrow.Author.Tests.{eq-eqb, eqb-true, ne-eqb, lt-ltb, le-ltb, ltb-true}
 use Rattle.places.specs.declared.Place.{Place}
 use Rattle.lists.specs.Test.{by-test, by-eq, and-left, and-right}
@@ -18,8 +18,8 @@ use Rattle.book.specs.Page.{over}
 use Rattle.book.specs.Cell.{Cell, free, holds, kept, trim, emptied, vacate, changed, edit}
 use Rattle.trim.specs.Trim.{keptPlace}
 use Rattle.places.specs.Places.{place, nowhere, placeAt, standsAt, emptiedAt}
-use Rattle.pool.specs.Bytes.{frameAt, filled, frameZeroed, frameCopied}
-use Rattle.pool.specs.Frames.{paste-frame, paste-other, filled-frame, filled-other, zeroed-frame, zeroed-other, copied-frame, copied-other, frame-part}
+use Rattle.pool.specs.Bytes.{frameAt}
+use Rattle.pool.specs.Frames.{paste-frame, paste-other}
 use Rattle.store.specs.Abs.{cellOf, cellsOf}
 
 -- ---- one cell
@@ -54,9 +54,6 @@ stands-place b i p s =
     let a = and-right (ltb 0 (p .backing)) _ s in
     (ltb-true 0 (p .backing) (and-left _ _ s), eqb-true (p .backing) b (and-left _ _ a), eqb-true (p .index) i (and-right (eqb (p .backing) b) _ a))
 
-pub place-stands : (b i : ℕ) (p : Place) → 0 < b → p .backing ≡ b → p .index ≡ i → standsAt b i p ≡ true
-place-stands b i p h e f = rw (e, f) (rw (lt-ltb 0 b h, eq-eqb b b refl, eq-eqb i i refl))
-
 -- ---- all cells
 
 module _ (size n : ℕ) (ps : List Place) (x : List ℕ) where
@@ -89,13 +86,6 @@ module _ (size n : ℕ) (ps : List Place) (x : List ℕ) where
       ∙ sym (listed-map k (λ f. cellOf (placeAt ps f) (frameAt size x f)) n)
 
 -- ---- places
-
--- one place set: one cell set
-pub set-place : (size n : ℕ) (ps : List Place) (x : List ℕ) (f : ℕ) (p : Place) → f < length ps
-    → cellsOf size n (set ps f p) x ≡ set (cellsOf size n ps x) f (cellOf p (frameAt size x f))
-set-place size n ps x f p h =
-    change-frame size n ps x (set ps f p) x f (λ k l ne. getD-set-other ps f k p nowhere ne) (λ k l ne. refl)
-    ∙ ap (λ q. set (cellsOf size n ps x) f (cellOf q (frameAt size x f))) (getD-set-same ps f p nowhere h)
 
 map-at : (h : Place → Place) (l : List Place) (f : ℕ) → f < length l → placeAt (map h l) f ≡ h (placeAt l f)
 map-at h [] f k = absurd (not-suc-le-zero k)
@@ -161,13 +151,6 @@ trim-places size n ps x rs m = map-places size n ps x (keptPlace rs) (kept rs) m
 pub paste-over : (z : List ℕ) (k : ℕ) (s : List ℕ) (m : ℕ) → m ≤ length s → paste z k s m ≡ over k (take m s) z
 paste-over z k s m h = let l : length (take m s) ≡ m = length-take-le m s h in rw l
 
-pub filled-over : (z : List ℕ) (k m v : ℕ) → filled z k m v ≡ over k (replicate m v) z
-unfolding filled
-filled-over z k m v =
-    let l : length (replicate m v) ≡ m = length-replicate m v in
-    let e : take m (replicate m v) ≡ replicate m v = take-all m (replicate m v) (omega arith) in
-    rw (e, l)
-
 changed-other : (b i : ℕ) (g : List ℕ → List ℕ) (p : Place) (y : List ℕ) → (p .backing ≡ b → p .index ≡ i → ⊥) → cellOf p y ≡ changed (slot b i) g (cellOf p y)
 changed-other b i g p y ne =
     by-eq (p .backing) 0
@@ -185,11 +168,6 @@ pub record Only (n : ℕ) (ps : List Place) (f b i : ℕ) : Type 0 where
   pub alone : (k : ℕ) → k < n → placeAt ps k .backing ≡ b → placeAt ps k .index ≡ i → k ≡ f
 
 module _ (size n : ℕ) (ps : List Place) (x : List ℕ) where
-  -- bytes of frame f only: its cell is set
-  pub one-frame : (y : List ℕ) (f : ℕ) → ((k : ℕ) → k < n → (k ≡ f → ⊥) → frameAt size y k ≡ frameAt size x k)
-      → cellsOf size n ps y ≡ set (cellsOf size n ps x) f (cellOf (placeAt ps f) (frameAt size y f))
-  one-frame y f e = change-frame size n ps x ps y f (λ k l ne. refl) e
-
   -- bytes of frame f only, and its place: its cell is what stands there
   pub settle-frame : (y z : List ℕ) (f b i : ℕ) → 0 < b → f < length ps → ((k : ℕ) → (k ≡ f → ⊥) → frameAt size y k ≡ frameAt size x k) → frameAt size y f ≡ z
       → cellsOf size n (set ps f (place b i)) y ≡ set (cellsOf size n ps x) f (holds b i z)
@@ -215,54 +193,7 @@ module _ (size n : ℕ) (ps : List Place) (x : List ℕ) where
 
   -- m bytes of s stored at place k of frame f
   module _ (f k : ℕ) (s : List ℕ) (m : ℕ) (inside : f * size + size ≤ length x) (fits : k + m ≤ size) (enough : m ≤ length s) where
-    pub write-frame : cellsOf size n ps (paste x (f * size + k) s m) ≡ set (cellsOf size n ps x) f (cellOf (placeAt ps f) (over k (take m s) (frameAt size x f)))
-    write-frame =
-        one-frame (paste x (f * size + k) s m) f (λ j l ne. paste-other size x f k s m inside fits enough j ne)
-        ∙ ap (λ z. set (cellsOf size n ps x) f (cellOf (placeAt ps f) z))
-        (paste-frame size x f k s m inside fits enough ∙ paste-over (frameAt size x f) k s m enough)
-
     pub write-edit : (b i : ℕ) → Only n ps f b i → cellsOf size n ps (paste x (f * size + k) s m) ≡ edit (slot b i) (over k (take m s)) (cellsOf size n ps x)
     write-edit b i O =
         edit-frame (paste x (f * size + k) s m) (over k (take m s)) f b i O (paste-other size x f k s m inside fits enough)
         (paste-frame size x f k s m inside fits enough ∙ paste-over (frameAt size x f) k s m enough)
-
-  -- m bytes from place j of frame g stored at place k of frame f
-  pub move-edit : (f k g j m b i : ℕ) → f * size + size ≤ length x → g * size + size ≤ length x → k + m ≤ size → j + m ≤ size → Only n ps f b i
-      → cellsOf size n ps (paste x (f * size + k) (drop (g * size + j) x) m) ≡ edit (slot b i) (over k (take m (drop j (frameAt size x g)))) (cellsOf size n ps x)
-  move-edit f k g j m b i inside source fits has O =
-      let l : m ≤ length (drop (g * size + j) x) = omega (arith, length-drop (g * size + j) x) in
-      write-edit f k (drop (g * size + j) x) m inside fits l b i O ∙ ap (λ d. edit (slot b i) (over k d) (cellsOf size n ps x)) (frame-part size x g j m has)
-
-  -- m bytes from place k of frame f set to v
-  module _ (f k m v : ℕ) (inside : f * size + size ≤ length x) (fits : k + m ≤ size) where
-    pub fill-frame : cellsOf size n ps (filled x (f * size + k) m v) ≡ set (cellsOf size n ps x) f (cellOf (placeAt ps f) (over k (replicate m v) (frameAt size x f)))
-    fill-frame =
-        one-frame (filled x (f * size + k) m v) f (λ j l ne. filled-other size x f k m v inside fits j ne)
-        ∙ ap (λ z. set (cellsOf size n ps x) f (cellOf (placeAt ps f) z)) (filled-frame size x f k m v inside fits ∙ filled-over (frameAt size x f) k m v)
-
-    pub fill-edit : (b i : ℕ) → Only n ps f b i → cellsOf size n ps (filled x (f * size + k) m v) ≡ edit (slot b i) (over k (replicate m v)) (cellsOf size n ps x)
-    fill-edit b i O =
-        edit-frame (filled x (f * size + k) m v) (over k (replicate m v)) f b i O (filled-other size x f k m v inside fits)
-        (filled-frame size x f k m v inside fits ∙ filled-over (frameAt size x f) k m v)
-
-  -- frame f zeroed; and placed at index i of backing b besides
-  module _ (f : ℕ) (inside : f * size + size ≤ length x) where
-    pub zero-frame : cellsOf size n ps (frameZeroed size x f) ≡ set (cellsOf size n ps x) f (cellOf (placeAt ps f) (replicate size 0))
-    zero-frame =
-        one-frame (frameZeroed size x f) f (λ j l ne. zeroed-other size x f inside j ne)
-        ∙ ap (λ z. set (cellsOf size n ps x) f (cellOf (placeAt ps f) z)) (zeroed-frame size x f inside)
-
-    pub zero-placed : (b i : ℕ) → 0 < b → f < length ps
-        → cellsOf size n (set ps f (place b i)) (frameZeroed size x f) ≡ set (cellsOf size n ps x) f (holds b i (replicate size 0))
-    zero-placed b i h l = settle-frame (frameZeroed size x f) (replicate size 0) f b i h l (zeroed-other size x f inside) (zeroed-frame size x f inside)
-
-  -- frame g copied to frame f; and placed at index i of backing b besides
-  module _ (f g : ℕ) (inside : f * size + size ≤ length x) (source : g * size + size ≤ length x) where
-    pub copy-frame : cellsOf size n ps (frameCopied size x f g) ≡ set (cellsOf size n ps x) f (cellOf (placeAt ps f) (frameAt size x g))
-    copy-frame =
-        one-frame (frameCopied size x f g) f (λ j l ne. copied-other size x f g inside source j ne)
-        ∙ ap (λ z. set (cellsOf size n ps x) f (cellOf (placeAt ps f) z)) (copied-frame size x f g inside source)
-
-    pub copy-placed : (b i : ℕ) → 0 < b → f < length ps
-        → cellsOf size n (set ps f (place b i)) (frameCopied size x f g) ≡ set (cellsOf size n ps x) f (holds b i (frameAt size x g))
-    copy-placed b i h l = settle-frame (frameCopied size x f g) (frameAt size x g) f b i h l (copied-other size x f g inside source) (copied-frame size x f g inside source)

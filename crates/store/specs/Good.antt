@@ -120,7 +120,8 @@ module _ (s : Store) (S : Sound s) where
 pub rising-ranged : (l : List PageRange) → Rising 0 (rangesOf l) → Rising 0 (rangedOf l)
 rising-ranged l h = rising-reback numberOf 0 (rangedOf l) (rw (← ranges-ranged l) h)
 
-mem-at : (l : List PageRange) (i : ℕ) → i < length l → List·Memᴰ (getD l i zeroRange) l
+-- the range in a used slot is one of them
+pub mem-at : (l : List PageRange) (i : ℕ) → i < length l → List·Memᴰ (getD l i zeroRange) l
 mem-at [] i h = absurd (omega arith)
 mem-at (r ∷ l) zero h = List·Memᴰ·head refl
 mem-at (r ∷ l) (suc i) h = List·Memᴰ·tail (mem-at l i (omega arith))

@@ -22,10 +22,9 @@ use Rattle.ranges.specs.Over.{Rest, put-mem, put-rising}
 use Rattle.ranges.specs.Hold.{unheld, held-once}
 use Rattle.table.specs.Table.{numberOf, ranged, unranged, rangedOf, rangeOf, rangesOf}
 use Rattle.edit.specs.Edit.{putTable, cutTable}
-use Rattle.store.specs.Abs.{liveBit}
-use Rattle.store.specs.Sound.{Fine, Kind, Agree, alike}
+use Rattle.store.specs.Sound.{Kind, Agree, alike}
 use Rattle.store.specs.Members.{all-of, of-all, origin, ranged-from, range-mem}
-use Rattle.store.specs.Stands.{Stay, kind-moved, fine-moved}
+use Rattle.store.specs.Stands.{Stay, kind-moved}
 use Rattle.store.specs.Ranges.{usedOf, tabled-used}
 
 -- ---- kinds agree
@@ -79,19 +78,6 @@ kind-part n ps l q P h =
     subst (λ (k : BackingPages). Kind n ps q k) (sym (P .piece .backing))
     (kind-piece n ps q (P .slot) (P .slot .backing) (P .piece) (P .long) (all-of (λ r. Kind n ps r (r .backing)) l h (P .slot) (P .mem)))
 
--- and as fine
-pub fine-part : (w n : ℕ) (ps : List Place) (l : List PageRange) (q : PageRange) → Part l q → All (Fine w n ps) l → Fine w n ps q
-fine-part w n ps l q P h =
-    let f = all-of (Fine w n ps) l h (P .slot) (P .mem) in
-    let p = P .piece in
-    record {
-      name = omega (arith, p .object, f .name);
-      live = ap (liveBit w) (p .object) ∙ f .live;
-      long = P .long;
-      within = omega (arith, p .last, f .within);
-      kind = subst (λ (k : BackingPages). Kind n ps q k) (sym (p .backing)) (kind-piece n ps q (P .slot) (P .slot .backing) p (P .long) (f .kind));
-    }
-
 -- ---- what holds of all ranges
 
 -- Each range is new and of a sound kind, or a part of an old one: all are of a sound kind. The places may change, from ps to qs, while the frames stay
@@ -99,10 +85,6 @@ fine-part w n ps l q P h =
 pub kinds-kept : (ps qs : List Place) (n : ℕ) (l m : List PageRange) → All (λ r. Kind n ps r (r .backing)) l → Stay ps qs n (rangesOf m)
     → ((q : PageRange) → List·Memᴰ q m → (Kind n qs q (q .backing)) ⊎ Part l q) → All (λ r. Kind n qs r (r .backing)) m
 kinds-kept ps qs n l m h K c = of-all (λ r. Kind n qs r (r .backing)) m (λ q k. ⊎-elim (λ f. f) (λ P. kind-moved ps qs n m q k K (kind-part n ps l q P h)) (c q k))
-
-pub fine-kept : (w : ℕ) (ps qs : List Place) (n : ℕ) (l m : List PageRange) → All (Fine w n ps) l → Stay ps qs n (rangesOf m)
-    → ((q : PageRange) → List·Memᴰ q m → (Fine w n qs q) ⊎ Part l q) → All (Fine w n qs) m
-fine-kept w ps qs n l m h K c = of-all (Fine w n qs) m (λ q k. ⊎-elim (λ f. f) (λ P. fine-moved w ps qs n m q k K (fine-part w n ps l q P h)) (c q k))
 
 abbrev pub Agreed : List PageRange → Type 0
 Agreed l = All (λ a. All (Agree a) l) l
@@ -188,9 +170,6 @@ module _ (R : List PageRange) (count : ℕ) (rising : Rising 0 (rangedOf (take c
 
   -- ---- THE RANGES AFTER A CUT
   module _ (a e : ℕ) (t : RangeTable) (h : a ≤ e) (is : t ≡ cutTable R count a e) where
-    pub cut-fine : (w : ℕ) (ps qs : List Place) (k : ℕ) → All (Fine w k ps) (take count R) → Stay ps qs k (rangesOf (usedOf t)) → All (Fine w k qs) (usedOf t)
-    cut-fine w ps qs k f K = fine-kept w ps qs k (take count R) (usedOf t) f K (λ q m. inr (cut-member a e t h is q m))
-
     pub cut-agreed : Agreed (take count R) → Agreed (usedOf t)
     cut-agreed A = agreed-cut (take count R) (usedOf t) A (cut-member a e t h is)
 
@@ -198,9 +177,6 @@ module _ (R : List PageRange) (count : ℕ) (rising : Rising 0 (rangedOf (take c
   module _ (n : PageRange) (t : RangeTable) (h : 0 < n .length) (is : t ≡ putTable R count n) where
     abbrev Around : PageRange → Type 0
     Around q = Part (take count R) q × ((upto (ranged q) ≤ from (ranged n)) ⊎ (upto (ranged n) ≤ from (ranged q)))
-
-    pub put-fine : (w : ℕ) (ps qs : List Place) (k : ℕ) → Fine w k qs n → All (Fine w k ps) (take count R) → Stay ps qs k (rangesOf (usedOf t)) → All (Fine w k qs) (usedOf t)
-    put-fine w ps qs k F f K = fine-kept w ps qs k (take count R) (usedOf t) f K (λ q m. ⊎-elim (λ (e : q ≡ n). inl (rw e F)) (λ (P : Around q). inr (P .0)) (put-member n t h is q m))
 
     put-agreed : Agreed (take count R) → ((q : PageRange) → Around q → Agree n q) → Agreed (usedOf t)
     put-agreed A g = agreed-put n (take count R) (usedOf t) A (λ q m. ⊎-elim (λ (e : q ≡ n). inl e) (λ (P : Around q). inr (P .0, g q P)) (put-member n t h is q m))

@@ -11,6 +11,7 @@ pub mod Located
 pub mod Looked
 pub mod Loops
 pub mod Members
+pub mod Pool
 pub mod Ranges
 pub mod Settle
 pub mod Sound

@@ -13,15 +13,13 @@ use Rattle.frames.specs.declared.Frame.the-variants.{At, Nothing}
 use Rattle.places.specs.declared.Place.{Place}
 use Rattle.places.specs.Places as places
 use Rattle.book.specs.Cell as cell
-use Rattle.store.specs.declared.Store.{Store}
-use Rattle.lists.specs.Test.{by-eq, by-lt}
+use Rattle.lists.specs.Test.{by-eq}
 use Rattle.ranges.specs.Range.{Slot}
 use Rattle.book.specs.Cell.{Cell, free, holds, isAt, bytesAt}
 use Rattle.places.specs.Places.{nowhere, placeAt, standsAt}
 use Rattle.places.specs.Found.{frame-found, frame-none}
 use Rattle.pool.specs.Bytes.{frameAt}
 use Rattle.store.specs.Abs.{cellOf, cellsOf}
-use Rattle.store.specs.Sound.{Sound}
 use Rattle.store.specs.Edits.{slot, Only, cell-at, cell-free, cell-holds, length-cells, stands-place}
 
 -- ---- the first cell at a slot
@@ -113,20 +111,6 @@ module _ (size n : ℕ) (ps : List Place) (x : List ℕ) (b i : ℕ) (m : n ≤ 
       (bytes-none (slot b i) (cellsOf size n ps x) h, frame-no (slot b i) 0 (cellsOf size n ps x) h)
 
 -- ---- the only frame at its place
-
--- in a sound store
-pub only-sound : (s : Store) → Sound s → (f b i : ℕ) → f < s .frames → 0 < b → placeAt (s .places) f .backing ≡ b → placeAt (s .places) f .index ≡ i → Only (s .frames) (s .places) f b i
-only-sound s S f b i l h e g = record {
-  below = l;
-  positive = h;
-  backing = e;
-  index = g;
-  alone = λ k j u v. by-lt k f
-      (λ q. absurd (S .alone f k q l (λ z. omega arith) (u ∙ sym e) (v ∙ sym g)))
-      (λ q. by-lt f k
-      (λ r. absurd (S .alone k f r j (λ z. omega arith) (e ∙ sym u) (g ∙ sym v)))
-      (λ r. omega arith));
-}
 
 -- inside a call, where the book says that no two cells are at one slot
 pub only-apart : (size n : ℕ) (ps : List Place) (x : List ℕ) (f b i : ℕ)

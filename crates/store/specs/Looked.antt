@@ -1,5 +1,5 @@
 -- A page of a store's book: absent, private or shared, and its bytes, from what the table and the places say.
-use mathlib.Core.Path.{_≡_, refl, ap, sym, _∙_}
+use mathlib.Core.Path.{_≡_, refl, sym}
 use mathlib.Core.Option.{Option, none, some}
 use mathlib.Core.List.{List}
 use Prim.Native.Nat.{ℕ, _+_, _-_, _≤_, _<_}
@@ -19,7 +19,7 @@ use Rattle.places.specs.Places.{frameAt}
 use Rattle.table.specs.Table.{Table, numberOf, ranged, rangedOf, rangeOf, rangesOf, zeroRange, coveringAt}
 use Rattle.store.specs.Abs.{used, bookOf}
 use Rattle.store.specs.Located.{located, absent-there}
-use Rattle.store.specs.Tabled.{Covered, covered-missing, covered-at}
+use Rattle.store.specs.Tabled.{covered-missing, covered-at}
 
 module _ (s : Store) (T : Table (s .ranges) (s .count)) (n : s .frames ≤ length (s .places)) (o p : ℕ) (x : List ℕ) where
   abbrev g : ℕ

@@ -18,9 +18,6 @@ pub padded-used : (l : List PageRange) (c : ℕ) → length l ≡ c → take c (
 unfolding padded
 padded-used l c e = take-at l (replicate (512 - length l) zeroRange) c e
 
-pub padded-ranges : (l : List PageRange) (c : ℕ) → length l ≡ c → rangesOf (take c (padded l)) ≡ rangesOf l
-padded-ranges l c e = ap rangesOf (padded-used l c e)
-
 zeros-all : (k : ℕ) → All (λ r. r ≡ zeroRange) (replicate k zeroRange)
 unfolding All
 zeros-all zero = tt
@@ -89,10 +86,6 @@ module _ (R : List PageRange) (count : ℕ) where
   pub put-used : (n : PageRange) (t : RangeTable) → t ≡ putTable R count n → rangedOf (usedOf t) ≡ put (ranged n) (rangedOf (take count R))
   unfolding putTable
   put-used n t e = ap (λ u. rangedOf (usedOf u)) e ∙ tabled-ranged (put (ranged n) (rangedOf (take count R)))
-
-  pub cut-used : (a e : ℕ) (t : RangeTable) → t ≡ cutTable R count a e → rangedOf (usedOf t) ≡ carve a e (rangedOf (take count R))
-  unfolding cutTable
-  cut-used a e t q = ap (λ u. rangedOf (usedOf u)) q ∙ tabled-ranged (carve a e (rangedOf (take count R)))
 
   -- and the slots behind them
   pub put-rest : (n : PageRange) (t : RangeTable) → t ≡ putTable R count n → All (λ r. r ≡ zeroRange) (drop (t .count) (t .ranges))

@@ -16,11 +16,10 @@ use Rattle.ranges.specs.Table.{named}
 use Rattle.ranges.specs.Find.{named-mem}
 use Rattle.table.specs.Table.{numberOf, rangeOf, rangesOf}
 use Rattle.places.specs.Places.{place, nowhere, placeAt, standsAt, emptiedAt}
-use Rattle.store.specs.Sound.{Stands, Kind, Fine}
+use Rattle.store.specs.Sound.{Stands, Kind}
 use Rattle.store.specs.Members.{range-mem}
 use Rattle.trim.specs.Trim.{keptPlace}
 use Rattle.store.specs.Edits.{trimmed, vacated, mapped-at, stands-place}
-use Rattle.store.specs.Abs.{liveBit}
 
 -- a frame whose place is as it was
 stands-as : (ps qs : List Place) (n b i : ℕ) (S : Stands ps n b i) → placeAt qs (S .frame) ≡ placeAt ps (S .frame) → Stands qs n b i
@@ -76,11 +75,3 @@ kind-moved ps qs n m q i K h = go (q .backing) refl h
         let x : b ≡ numberOf (q .backing) = sym (ap numberOf e) in
         let w : named b 0 (rangesOf m) ≡ true = named-mem b 0 (rangesOf m) (rangeOf q) (range-mem m q i) x (omega (arith, h .2)) (omega (arith, h .1)) in
         (h .0, h .1, h .2, K b (h .0) w (h .3))
-
--- and fine with them
-pub fine-moved : (w : ℕ) (ps qs : List Place) (n : ℕ) (m : List PageRange) (q : PageRange) → List·Memᴰ q m → Stay ps qs n (rangesOf m) → Fine w n ps q → Fine w n qs q
-fine-moved w ps qs n m q i K f = record { name = f .name; live = f .live; long = f .long; within = f .within; kind = kind-moved ps qs n m q i K (f .kind) }
-
--- and with another word of live names in which its own is live
-pub fine-live : (w v n : ℕ) (ps : List Place) (q : PageRange) → liveBit v (q .object) ≡ true → Fine w n ps q → Fine v n ps q
-fine-live w v n ps q h f = record { name = f .name; live = h; long = f .long; within = f .within; kind = f .kind }

@@ -1,5 +1,5 @@
 -- A sound store's table of ranges is a table in order, and the range that covers a page is found in it.
-use mathlib.Core.Path.{_≡_, refl, ap, sym, _∙_}
+use mathlib.Core.Path.{_≡_, refl, ap, _∙_}
 use mathlib.Core.Option.{none, some}
 use mathlib.Core.List.{List, [], _∷_, map}
 use Prim.Native.Nat.{ℕ, zero, suc, _≤_, _<_}
@@ -31,7 +31,7 @@ module _ (R : List PageRange) (count : ℕ) (T : Table R count) (g : ℕ) where
   abbrev us : List (Ranged BackingPages)
   us = rangedOf (take count R)
 
-  same-starts : startsBefore (suc g) rs ≡ startsBefore (suc g) us
+  pub same-starts : startsBefore (suc g) rs ≡ startsBefore (suc g) us
   same-starts = ap (λ l. startsBefore (suc g) l) (ranges-ranged (take count R)) ∙ starts-reback (suc g) us
 
   at-slot : slotAt g rs ≡ slotOf g (lastOf (rangeOf zeroRange) (startsBefore (suc g) us) rs)
@@ -39,7 +39,7 @@ module _ (R : List PageRange) (count : ℕ) (T : Table R count) (g : ℕ) where
       slot-previous g 0 rs (rw (← ranges-ranged (take count R)) at (reback-rising numberOf 0 us (T .rising)))
       ∙ ap (λ o. slotOf g o) (previous-is (rangeOf zeroRange) g rs ∙ ap (λ n. lastOf (rangeOf zeroRange) n rs) same-starts)
 
-  range-at : (i : ℕ) → i < count → getD rs i (rangeOf zeroRange) ≡ rangeOf (getD R i zeroRange)
+  pub range-at : (i : ℕ) → i < count → getD rs i (rangeOf zeroRange) ≡ rangeOf (getD R i zeroRange)
   unfolding rangesOf
   range-at i h = List·getD-map rangeOf (take count R) i zeroRange ∙ ap (λ r. rangeOf r) (getD-take count R i zeroRange h)
 
@@ -50,7 +50,7 @@ module _ (R : List PageRange) (count : ℕ) (T : Table R count) (g : ℕ) where
     pub high : g < upto (ranged (getD R k zeroRange))
     pub slot : slotAt g rs ≡ some (slotIn g (rangeOf (getD R k zeroRange)))
 
-  last-at : (k : ℕ) → startsBefore (suc g) us ≡ suc k → (k < count) × (from (ranged (getD R k zeroRange)) ≤ g)
+  pub last-at : (k : ℕ) → startsBefore (suc g) us ≡ suc k → (k < count) × (from (ranged (getD R k zeroRange)) ≤ g)
   last-at k e =
       let h : k < count = omega (arith, starts-count R count T (suc g)) in
       (h, omega (arith, starts-in (ranged zeroRange) (suc g) k us (omega arith), ap (λ r. from r) (used-at R count T k h)))

@@ -1,21 +1,18 @@
 -- The page shown is the book's answer.
 use mathlib.Core.Path.{_≡_, refl, ap, sym, _∙_}
-use mathlib.Core.Bool.{true, false, not, false≢true}
+use mathlib.Core.Bool.{true, false}
 use mathlib.Core.Option.{none}
-use mathlib.Core.List.{List, [], _∷_}
+use mathlib.Core.List.{List, []}
 use Prim.Native.Nat.{ℕ, zero, suc, _+_, _*_, _≤_, _<_}
 use native.Mathlib.Omega.{arith}
-use lib.Dec.{leb}
 use lib.ListN.{length, replicate, length-replicate}
-use borrow.Author.Tests.{lt-ltb, le-leb, ne-eqb}
 use Rattle.store.specs.declared.Store.{Store}
 use Rattle.look.specs.declared.PageAt.{PageAt}
 use Rattle.look.specs.declared.PageAt.the-variants.{Absent, Present}
 use Rattle.look.specs.declared.Located.{Located}
-use Rattle.lists.specs.Test.{by-lt, by-eq}
 use Rattle.ranges.specs.Range.{line}
-use Rattle.book.specs.Book.{bytes, show, step, judged, perform, lowest, table, noPool, noObject, frameOf, shown}
-use Rattle.laws.specs.Accepted.{row}
+use Rattle.book.specs.Book.{bytes, show, step, judged, perform, lowest, table, frameOf, shown}
+use Rattle.laws.specs.Accepted.{show-rows}
 use Rattle.store.specs.Abs.{bookOf}
 use Rattle.store.specs.Sound.{Sound, Sized, sound?}
 use Rattle.store.specs.Iff.{sound-says}
@@ -39,19 +36,11 @@ pub record Accepts (s : Store) (n o p : ℕ) : Type 0 where
   pub page : p < 262144
 
 pub accepts : (s : Store) (x : List ℕ) (o p : ℕ) → 0 ≡ refusal s x (show o p) → Accepts s (length x) o p
-unfolding table bookOf
+unfolding bookOf
 accepts s x o p r =
     let h = zero-sound (show o p) s x r in
-    let e = sound-lowest (show o p) s x 0 r h in
-    let d = row (noPool (bookOf s x)) 2 ((noObject (bookOf s x) o, 3) ∷ (leb 262144 p, 6) ∷ []) (omega arith) e in
-    let f = row (noObject (bookOf s x) o) 3 ((leb 262144 p, 6) ∷ []) (omega arith) (d .1) in
-    let g = row (leb 262144 p) 6 [] (omega arith) (f .1) in
-    record {
-      sound = sound-says s h;
-      pool = by-eq (length x) (s .frames * 4096) (λ z. z) (λ z. absurd (false≢true (sym (d .0) ∙ ap not (ne-eqb (length x) (s .frames * 4096) z))));
-      name = by-lt o 32 (λ l. l) (λ l. absurd (false≢true (sym (f .0) ∙ rw (lt-ltb 31 o (omega arith)))));
-      page = by-lt p 262144 (λ l. l) (λ l. absurd (false≢true (sym (g .0) ∙ le-leb 262144 p l)));
-    }
+    let R = show-rows (bookOf s x) o p (sound-lowest (show o p) s x 0 r h) in
+    record { sound = sound-says s h; pool = R .0; name = R .1 .small; page = R .2 }
 
 -- for some pool of this length, so for the code that only has the length
 pub accepts-length : (s : Store) (n o p : ℕ) → ((x : List ℕ) → length x ≡ n → 0 ≡ refusal s x (show o p)) → Accepts s n o p
