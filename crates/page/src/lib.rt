@@ -1,8 +1,15 @@
 ghost use mathlib.Core.Path.{_≡_};
-ghost use Prim.Native.Nat.{_+_, _-_, _*_, _/_, _%_, _≤_, _<_};
+ghost use Prim.Native.Nat.{_+_, _-_, _*_, _/_, _%_, _≤_, _<_, min};
 
 // A page of an object, counted from 0: "a number of its own, never mixed with a byte offset or a frame number".
 pub struct PageNumber(pub usize);
+
+// A span of bytes: those before its first page edge, its whole pages, those after the last edge.
+pub struct Span {
+    pub head: usize,
+    pub whole: usize,
+    pub tail: usize,
+}
 
 impl PageNumber {
     // The bytes of a page.
@@ -32,6 +39,39 @@ impl PageNumber {
         ensures { λ r. ⌜ r ≡ offset % 4096 ⌝ }
     {
         offset % PageNumber::PAGE_SIZE
+    }
+
+    // How many of the n bytes from a byte offset on lie in its page.
+    pub fn in_page(offset: usize, n: usize) -> usize
+        ensures { λ r. ⌜ r ≡ min n (4096 - offset % 4096) ⌝ }
+    {
+        let room = PageNumber::PAGE_SIZE - offset % PageNumber::PAGE_SIZE;
+        if n < room {
+            return n;
+        }
+        room
+    }
+
+    // The span of the n bytes from a byte offset on; one inside a page with both ends off the page's edges is all head.
+    pub fn span_of(offset: usize, n: usize) -> Span
+        ensures { λ r. ⌜ (r .head ≡ min n ((4096 - offset % 4096) % 4096)) × (r .whole ≡ (n - r .head) / 4096) × (r .tail ≡ (n - r .head) % 4096) ⌝ }
+    {
+        let head = PageNumber::to_edge(offset, n);
+        Span {
+            head,
+            whole: (n - head) / PageNumber::PAGE_SIZE,
+            tail: (n - head) % PageNumber::PAGE_SIZE,
+        }
+    }
+
+    // How many of the n bytes from a byte offset on lie before the first page edge; none if the offset is one.
+    pub fn to_edge(offset: usize, n: usize) -> usize
+        ensures { λ r. ⌜ r ≡ min n ((4096 - offset % 4096) % 4096) ⌝ }
+    {
+        if offset % PageNumber::PAGE_SIZE == 0 {
+            return 0;
+        }
+        PageNumber::in_page(offset, n)
     }
 
     // The byte offset at which a page begins.

@@ -1,5 +1,5 @@
 -- The parts of a range, from what the code has computed.
-use mathlib.Core.Path.{_≡_, refl, ap, sym, _∙_}
+use mathlib.Core.Path.{_≡_, ap, sym, _∙_}
 use mathlib.Core.List.{List, [], _∷_, _++_}
 use Prim.Native.Nat.{ℕ, suc, _+_, _-_, _≤_, _<_, min}
 use native.Mathlib.Omega.{arith}
@@ -28,10 +28,13 @@ front-part a n r q l u e h =
     let m : n ≡ min (r .length) (a - from (ranged r)) = omega arith in
     rw h (ap (λ k. keep k (ranged r) ∷ []) m ∙ sym (front-some a (ranged r) l))
 
-pub back-part : (e s i n : ℕ) (r q : PageRange) → from (ranged r) < e → e < upto (ranged r)
-    → s ≡ r .start .0 + (e - from (ranged r)) → i ≡ r .offset + (e - from (ranged r)) → n ≡ r .length - (e - from (ranged r))
-    → q ≡ record { object = r .object; start = record { 0 = s }; length = n; offset = i; backing = r .backing } → ranged q ∷ [] ≡ back e (ranged r)
-back-part e s i n r q l u es ei en h = rw (h, es, ei, en) (sym (back-some e (ranged r) u))
+pub back-part : (e k : ℕ) (r q : PageRange) → e < upto (ranged r) → k ≡ e - from (ranged r) → ranged q ≡ skip k (ranged r) → ranged q ∷ [] ≡ back e (ranged r)
+back-part e k r q u ek h = rw (h, ek) (sym (back-some e (ranged r) u))
+
+-- the range without its first k pages
+pub skip-part : (k s : ℕ) (r q : PageRange) → s ≡ r .start .0 + k
+    → q ≡ record { object = r .object; start = record { 0 = s }; length = r .length - k; offset = r .offset + k; backing = r .backing } → ranged q ≡ skip k (ranged r)
+skip-part k s r q es h = rw (h, es)
 
 -- the page in the middle
 pub middle-part : (g s i : ℕ) (r q : PageRange) → s ≡ r .start .0 + (g - from (ranged r)) → i ≡ r .offset + (g - from (ranged r))

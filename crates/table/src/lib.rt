@@ -3,7 +3,7 @@ ghost use mathlib.Core.Path.{_≡_};
 ghost use mathlib.Core.List.{_++_, _∷_, [], map};
 ghost use Prim.Native.Nat.{ℕ, _+_, _-_, _*_, _≤_, _<_, suc};
 ghost use lib.ListN.{take};
-ghost use Rattle.ranges.specs.Range.{line, from, upto, front, back, covers, splitAt};
+ghost use Rattle.ranges.specs.Range.{line, from, upto, skip, front, back, covers, splitAt};
 ghost use Rattle.ranges.specs.Search.{startsBefore, endsBy};
 ghost use Rattle.ranges.specs.Table.{holders, fresh, window, named};
 ghost use Rattle.table.specs.Table.{numberOf, ranged, rangeOf, rangesOf, rangedOf, zeroRange, Small, Table, partsOf, Cut, coveringAt};
@@ -88,6 +88,25 @@ impl PageRange {
     }
 }
 
+// A range without its first k pages: start, length and offset move, the backing stays.
+pub fn shortened(r: PageRange, k: u32) -> PageRange
+    requires { ⌜ (Small r) × (k ≤ r .length) ⌝ }
+    ensures { λ q. ⌜ ranged q ≡ skip k (ranged r) ⌝ }
+{
+    let start = r.start;
+    let first = start.offset(k as usize);
+    let index = r.offset + k;
+    r.new_from(first, index, r.length - k)
+}
+
+// "Shortening a range changes the caller's own range record": the same behind a reference.
+pub fn shorten(r: &mut PageRange, k: u32)
+    requires { ⌜ (Small (now r)) × (k ≤ now r .length) ⌝ }
+    ensures { λ _. ⌜ ranged (now (r .exit)) ≡ skip k (ranged (now (r .entry))) ⌝ }
+{
+    *r = shortened(*r, k);
+}
+
 // A part of a range, or none.
 pub enum Piece {
     Empty,
@@ -138,12 +157,8 @@ pub fn back_of(r: PageRange, e: usize) -> Piece
     if e <= s {
         return Piece::Part(r);
     }
-    let k = e - s;
-    let n = k as u32;
-    let start = r.start;
-    let first = start.offset(k);
-    let index = r.offset + n;
-    Piece::Part(r.new_from(first, index, r.length - n))
+    let k = (e - s) as u32;
+    Piece::Part(shortened(r, k))
 }
 
 // The parts of a range before page a and from page e of the line on.

@@ -11,7 +11,8 @@ use table::PageRange;
 use table::Piece;
 ghost use mathlib.Core.Path.{_≡_};
 ghost use Prim.Native.Nat.{_+_, _≤_, _<_};
-ghost use Rattle.table.specs.Table.{Table, Small};
+ghost use Rattle.ranges.specs.Range.{skip};
+ghost use Rattle.table.specs.Table.{Table, Small, ranged};
 
 fn report(name: &[u8], right: bool) {
     io::write_all(1, name);
@@ -109,6 +110,25 @@ fn cuts() {
     report(b"(c) back", is_part(back(12), 12, 20, 2));
     report(b"(d) front", is_part(front(19), 10, 19, 0));
     report(b"(d) back", is_none(back(30)));
+}
+
+// A range that is shortened behind a reference.
+fn shortened_there(mut r: PageRange, k: u32) -> PageRange
+    requires { ⌜ (Small r) × (k ≤ r .length) ⌝ }
+    ensures { λ q. ⌜ ranged q ≡ skip k (ranged r) ⌝ }
+{
+    table::shorten(&mut r, k);
+    r
+}
+
+fn shortenings() {
+    let r = shortened_there(pages(10, 20, 0), 5);
+    report(
+        b"(a) back, in the caller's own record",
+        same(r, 15, 20, 5, 1),
+    );
+    let r = shortened_there(pages(10, 20, 7), 0);
+    report(b"shortened by nothing", same(r, 10, 20, 7, 1));
 }
 
 fn around_page() {
@@ -380,6 +400,7 @@ fn trims() {
 fn main() {
     numbers();
     cuts();
+    shortenings();
     around_page();
     searches();
     cut_tables();

@@ -21,36 +21,14 @@ returns-2 c = back-all _ _ (omega arith) (omega arith)
 sub-k : tie.Need-sub-k
 sub-k c = search needs
 
-cast-n : tie.Need-cast-n
-cast-n c = search needs
+cast-k : tie.Need-cast-k
+cast-k c = search needs
 
-offset-requires : tie.Need-offset-requires
-offset-requires c κs = search needs
-
-add-index : tie.Need-add-index
-add-index c = search needs
-
-sub-new-from : tie.Need-sub-new-from
-sub-new-from c = search needs
-
-new-from-requires : tie.Need-new-from-requires
-new-from-requires c κs = search needs
+shortened-requires : tie.Need-shortened-requires
+shortened-requires c κs = (search needs, omega arith)
 
 returns-3 : tie.Need-returns-3
-returns-3 c = back-part _ _ _ _ _ _ (omega arith) (omega arith) (omega arith) (omega arith) (omega arith) (c .new-from .ensures)
+returns-3 c = back-part _ _ _ _ (omega arith) (omega arith) (c .shortened .ensures)
 
 pub back-of-spec : {M : Type 1} → statement M
-back-of-spec =
-    tie.close
-    (tie.spec
-    end-requires
-    returns
-    first-requires
-    returns-2
-    sub-k
-    cast-n
-    offset-requires
-    add-index
-    sub-new-from
-    new-from-requires
-    returns-3)
+back-of-spec = tie.close (tie.spec end-requires returns first-requires returns-2 sub-k cast-k shortened-requires returns-3)

@@ -1,0 +1,12 @@
+use borrow.Author.Needs.{needs}
+use Rattle.pages.proofs.own_spot.Statement.{statement}
+use Rattle.pages.proofs.own_spot.Tie as tie
+
+fresh-number-requires : tie.Need-fresh-number-requires
+fresh-number-requires c κs = search needs
+
+returns : tie.Need-returns
+returns c = let e = c .fresh-number .ensures in rw e
+
+pub own-spot-spec : {M : Type 1} → statement M
+own-spot-spec = tie.close (tie.spec fresh-number-requires returns)

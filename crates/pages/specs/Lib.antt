@@ -1,0 +1,12 @@
+pub mod Added
+pub mod Any
+pub mod Changed
+pub mod Clear
+pub mod Enter
+pub mod Inside
+pub mod Next
+pub mod Part
+pub mod Present
+pub mod Settling
+pub mod Spot
+pub mod Steps
