@@ -1,1 +1,3 @@
+pub mod Needs
 pub mod Refuse
+pub mod Spans

@@ -1,0 +1,86 @@
+// THE CALLS THAT LEND A POOL AND WORK ON BYTES OF PAGES. Each takes any store, any pool and any arguments. Its number is 0, or that of the table.
+use calls::Reply;
+use page::PageNumber;
+use store::Store;
+ghost use mathlib.Core.Path.{_≡_};
+ghost use Prim.Native.Nat.{_≤_, _<_};
+ghost use lib.ListN.{length};
+ghost use Rattle.book.specs.Book.{add, read, write, added, bytes, done};
+ghost use Rattle.places.specs.Places.{FreeMap};
+ghost use Rattle.calls.specs.With.{DidWith};
+ghost use Rattle.pages.specs.Enter.{closed};
+
+// "released frames are free when the call ends": the free map is made anew.
+pub fn closed(t: Store) -> Store
+    requires { ⌜ t .frames ≤ 1024 ⌝ }
+    ensures { λ r. ⌜ (r ≡ closed t (r .free)) × (FreeMap (t .frames) (t .places) (r .free)) ⌝ }
+{
+    let ranges = t.ranges;
+    let places = t.places;
+    let free = places::free_map(places, t.frames);
+    Store {
+        frames: t.frames,
+        live: t.live,
+        count: t.count,
+        ranges,
+        places,
+        free,
+    }
+}
+
+// The frame of an added page; 0 where the call is refused.
+pub struct Added {
+    pub number: u8,
+    pub frame: usize,
+    pub store: Store,
+}
+
+pub fn add(s: Store, pool: &mut [u8], object: u32, page: PageNumber) -> Added
+    ensures { λ r. ⌜ (DidWith (add object (page .0)) s (now (pool .entry)) (r .number) (added (r .frame)) (r .store) (now (pool .exit))) × (0 < r .number → r .frame ≡ 0) ⌝ }
+{
+    let k = refuse::add(s, pool.len(), object, page);
+    if 0 < k {
+        return Added {
+            number: k,
+            frame: 0,
+            store: s,
+        };
+    }
+    let r = pages::add_page(s, pool, object, page);
+    let t = closed(r.store);
+    Added {
+        number: 0,
+        frame: r.frame,
+        store: t,
+    }
+}
+
+// "The length of a read or write is that of its lent buffer." A refused read leaves the buffer as it is.
+pub fn read(s: Store, pool: &[u8], object: u32, offset: usize, buf: &mut [u8]) -> u8
+    ensures { λ k. ⌜ (DidWith (read object offset (length (now (buf .entry)))) s (now (pool .entry)) k (bytes (now (buf .exit))) s (now (pool .entry))) × (0 < k → now (buf .exit) ≡ now (buf .entry)) ⌝ }
+{
+    let k = refuse::read(s, pool.len(), object, offset, buf.len());
+    if 0 < k {
+        return k;
+    }
+    reads::read_pages(s, pool, object, offset, buf);
+    0
+}
+
+pub fn write(s: Store, pool: &mut [u8], object: u32, offset: usize, src: &[u8]) -> Reply
+    ensures { λ r. ⌜ DidWith (write object offset (now (src .entry))) s (now (pool .entry)) (r .number) done (r .store) (now (pool .exit)) ⌝ }
+{
+    let k = refuse::write(s, pool.len(), object, offset, src.len());
+    if 0 < k {
+        return Reply {
+            number: k,
+            store: s,
+        };
+    }
+    let w = writes::write_pages(s, pool, object, offset, src);
+    let t = closed(w);
+    Reply {
+        number: 0,
+        store: t,
+    }
+}

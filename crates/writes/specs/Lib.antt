@@ -1,0 +1,4 @@
+pub mod Going
+pub mod Parts
+pub mod Turn
+pub mod Written
