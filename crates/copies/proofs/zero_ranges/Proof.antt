@@ -1,0 +1,44 @@
+use Rattle.book.specs.Book.{zeroOut, done}
+use Rattle.copies.specs.Enters.{zero-enters, zero-done}
+use mathlib.Core.Path.{_≡_, refl, sym, _∙_}
+use Rattle.refuse.specs.Refuse.{refusal}
+use Rattle.calls.specs.With.{with-refused}
+use Rattle.access.specs.Finish.{handed}
+use native.Mathlib.Omega.{arith}
+use borrow.Author.Needs.{needs}
+use Rattle.copies.proofs.zero_ranges.Statement.{statement}
+use Rattle.copies.proofs.zero_ranges.Tie as tie
+
+zero-requires : tie.Need-zero-requires
+zero-requires c κs = search needs
+
+returns : tie.Need-returns
+returns c =
+    let a = c .before .before .before .args in
+    with-refused (zeroOut (a .object) (a .offset) (a .n)) (a .s) (a .pool .now) done (c .before .zero .result) (c .if1 .taken) (c .before .zero .ensures .0 (a .pool .now) refl) (λ j. refl)
+
+zero-span-requires : tie.Need-zero-span-requires
+zero-span-requires c κs =
+    let a = c .before .before .before .before .args in
+    let k : c .before .before .zero .result ≡ 0 = omega (arith, c .before .if1 .left) in
+    let r : 0 ≡ refusal (a .s) (a .pool .now) (zeroOut (a .object) (a .offset) (a .n)) = sym k ∙ c .before .before .zero .ensures .0 (a .pool .now) refl in
+    zero-enters (a .s) (a .pool .now) (c .before .before .zero .ensures .1) (a .object) (a .offset) (a .n) r
+
+closed-requires : tie.Need-closed-requires
+closed-requires c κs = search needs
+
+same-length : tie.Need-same-length
+same-length c = search needs
+
+returns-2 : tie.Need-returns-2
+returns-2 c =
+    let a = c .before .before .before .before .before .before .before .before .args in
+    let k : c .before .before .before .before .before .before .zero .result ≡ 0 = omega (arith, c .before .before .before .before .before .if1 .left) in
+    let r : 0 ≡ refusal (a .s) (a .pool .now) (zeroOut (a .object) (a .offset) (a .n)) = sym k ∙ c .before .before .before .before .before .before .zero .ensures .0 (a .pool .now) refl in
+    let m = c .closed .ensures in
+    handed _ _ _ _ _ _ _ _ (m .0) (zero-done (a .s) (a .pool .now) (c .before .before .before .before .before .before .zero .ensures .1) (a .object) (a .offset) (a .n) r _ _ (c .before .before .before .zero-span .ensures) _ (m .1))
+
+pub zero-ranges-spec : {M : Type 1} → statement M
+zero-ranges-spec =
+    tie.close
+    (tie.spec zero-requires returns zero-span-requires closed-requires same-length returns-2)

@@ -1,0 +1,6 @@
+pub mod Enters
+pub mod Equal
+pub mod Parts
+pub mod Room
+pub mod Spans
+pub mod Zero

@@ -1,0 +1,144 @@
+// COPYING AND ZEROING. Each call takes any store, any pool and any arguments. Its number is 0, or that of the table.
+use calls::Reply;
+use page::PageNumber;
+use store::Store;
+ghost use Prim.Native.Nat.{_+_};
+ghost use Rattle.book.specs.Copy.{copyEqual, copying, zeroing};
+ghost use Rattle.book.specs.Book.{copy, shadow, zeroOut, done};
+ghost use Rattle.store.specs.Spare.{workOf};
+ghost use Rattle.calls.specs.With.{DidWith};
+ghost use Rattle.copies.specs.Room.{ZeroRoom, EqualRoom, CopyRoom, Worked};
+
+// "Zeroing leaves whole pages uncovered and clears bytes in present partial pages."
+fn zero_span(s: Store, pool: &mut [u8], object: u32, offset: usize, n: usize) -> Store
+    requires { ⌜ ZeroRoom s (now pool) object offset n ⌝ }
+    ensures { λ t. ⌜ Worked s (now (pool .entry)) (zeroing object offset n (workOf s (now (pool .entry)))) t (now (pool .exit)) ⌝ }
+{
+    let p = PageNumber::span_of(offset, n);
+    let a = pages::clear_page(s, pool, object, offset, p.head);
+    let whole = offset + p.head;
+    let b = shares::uncover(a, object, PageNumber::from_offset(whole), p.whole);
+    let tail = whole + p.whole * PageNumber::PAGE_SIZE;
+    pages::clear_page(b, pool, object, tail, p.tail)
+}
+
+pub fn zero_ranges(s: Store, pool: &mut [u8], object: u32, offset: usize, n: usize) -> Reply
+    ensures { λ r. ⌜ DidWith (zeroOut object offset n) s (now (pool .entry)) (r .number) done (r .store) (now (pool .exit)) ⌝ }
+{
+    let k = refuse::zero(s, pool.len(), object, offset, n);
+    if 0 < k {
+        return Reply {
+            number: k,
+            store: s,
+        };
+    }
+    let w = zero_span(s, pool, object, offset, n);
+    let t = access::closed(w);
+    Reply {
+        number: 0,
+        store: t,
+    }
+}
+
+// "A copy at equal places copies its partly touched pages as bytes and shares whole pages."
+fn copy_equal(
+    s: Store,
+    pool: &mut [u8],
+    source: u32,
+    from: usize,
+    object: u32,
+    to: usize,
+    n: usize,
+) -> Store
+    requires { ⌜ EqualRoom s (now pool) source from object to n ⌝ }
+    ensures { λ t. ⌜ Worked s (now (pool .entry)) (copyEqual source from object to n (workOf s (now (pool .entry)))) t (now (pool .exit)) ⌝ }
+{
+    let p = PageNumber::span_of(from, n);
+    let a = moves::copy_bytes(s, pool, source, from, object, to, p.head);
+    let first = PageNumber::from_offset(from + p.head);
+    let place = PageNumber::from_offset(to + p.head);
+    let b = shares::copy_range_to_object_tree(a, source, first, object, place, p.whole);
+    let done = p.head + p.whole * PageNumber::PAGE_SIZE;
+    moves::copy_bytes(b, pool, source, from + done, object, to + done, p.tail)
+}
+
+// "At unequal places all is bytes, absent source bytes being zeros."
+fn copy_span(
+    s: Store,
+    pool: &mut [u8],
+    source: u32,
+    from: usize,
+    object: u32,
+    to: usize,
+    n: usize,
+) -> Store
+    requires { ⌜ CopyRoom s (now pool) source from object to n ⌝ }
+    ensures { λ t. ⌜ Worked s (now (pool .entry)) (copying source from object to n (workOf s (now (pool .entry)))) t (now (pool .exit)) ⌝ }
+{
+    if PageNumber::place(from) == PageNumber::place(to) {
+        return copy_equal(s, pool, source, from, object, to, n);
+    }
+    moves::copy_bytes(s, pool, source, from, object, to, n)
+}
+
+pub fn copy_ranges(
+    s: Store,
+    pool: &mut [u8],
+    source: u32,
+    from: usize,
+    object: u32,
+    to: usize,
+    n: usize,
+) -> Reply
+    ensures { λ r. ⌜ DidWith (copy source from object to n) s (now (pool .entry)) (r .number) done (r .store) (now (pool .exit)) ⌝ }
+{
+    let k = refuse::copy(s, pool.len(), source, from, object, to, n);
+    if 0 < k {
+        return Reply {
+            number: k,
+            store: s,
+        };
+    }
+    let w = copy_span(s, pool, source, from, object, to, n);
+    let t = access::closed(w);
+    Reply {
+        number: 0,
+        store: t,
+    }
+}
+
+// "The shadow copy ignores the destination's place within a page": whole pages are shared, and no byte of the pool changes.
+pub fn copy_range_to_shadow(
+    s: Store,
+    pool: &[u8],
+    source: u32,
+    from: usize,
+    object: u32,
+    to: usize,
+    n: usize,
+) -> Reply
+    ensures { λ r. ⌜ DidWith (shadow source from object to n) s (now (pool .entry)) (r .number) done (r .store) (now (pool .entry)) ⌝ }
+{
+    let k = refuse::shadow(s, pool.len(), source, from, object, to, n);
+    if 0 < k {
+        return Reply {
+            number: k,
+            store: s,
+        };
+    }
+    let first = PageNumber::from_offset(from);
+    let place = PageNumber::from_offset(to);
+    let w = shares::copy_range_to_object_tree(
+        s,
+        source,
+        first,
+        object,
+        place,
+        n / PageNumber::PAGE_SIZE,
+    );
+    let t = access::closed(w);
+    Reply {
+        number: 0,
+        store: t,
+    }
+}

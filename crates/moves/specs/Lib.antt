@@ -1,0 +1,4 @@
+pub mod Copying
+pub mod Made
+pub mod Moving
+pub mod Source

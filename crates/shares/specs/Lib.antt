@@ -1,0 +1,6 @@
+pub mod Moved
+pub mod Reranged
+pub mod Retabled
+pub mod Sharing
+pub mod Together
+pub mod Uncovered
