@@ -3,25 +3,28 @@ use places::Place;
 use table::BackingPages;
 use table::PageRange;
 ghost use mathlib.Core.Path.{_≡_};
-ghost use Prim.Native.Nat.{_+_, _≤_};
+ghost use Prim.Native.Nat.{_+_, _≤_, _<_};
 ghost use lib.Dec.{leb};
-ghost use lib.ListN.{take, drop};
-ghost use Rattle.lists.specs.Every.{every};
+ghost use lib.ListN.{getD, take, drop};
+ghost use Rattle.lists.specs.Every.{allBelow, every};
+ghost use Rattle.chains.specs.Walk.{Walk};
+ghost use Rattle.columns.specs.Columns.{spotted};
 ghost use Rattle.table.specs.Table.{rangesOf};
+ghost use Rattle.sound_ranges.specs.Agree.{alikeIn, alikeTo};
 ghost use Rattle.store.specs.Abs.{liveBit};
 ghost use Rattle.store.specs.Sound.{stands?, kind?, fine?, rising?, alike, isNothing?, zero?};
 ghost use Rattle.store.specs.Loops.{Smalls};
 
 // "its frame at index 0": whether one of the frames stands at this backing and index.
-pub fn stands(places: [Place; 1024], frames: usize, backing: u32, index: u32) -> bool
+pub fn stands(spots: &[u64; 1024], frames: usize, backing: u32, index: u32) -> bool
     requires { ⌜ frames ≤ 1024 ⌝ }
-    ensures { λ q. ⌜ q ≡ stands? places frames backing index ⌝ }
+    ensures { λ q. ⌜ q ≡ stands? (spotted (now (spots .entry))) frames backing index ⌝ }
 {
     let mut f: usize = frames;
     while 0 < f {
         f -= 1;
-        let p = places[f];
-        if (p.backing == backing) & (p.index == index) {
+        let x = spots[f];
+        if (x / 4294967296 == (backing as u64)) & (x % 4294967296 == (index as u64)) {
             return true;
         }
     }
@@ -30,15 +33,15 @@ pub fn stands(places: [Place; 1024], frames: usize, backing: u32, index: u32) ->
 
 // "`Nothing` stands only in unused slots"; "A `Single` range has length 1 and offset 0, its frame at index 0"; "A `Many` range has offset + length
 // at most 1,048,576".
-pub fn kind(r: PageRange, frames: usize, places: [Place; 1024]) -> bool
+pub fn kind(r: PageRange, frames: usize, spots: &[u64; 1024]) -> bool
     requires { ⌜ frames ≤ 1024 ⌝ }
-    ensures { λ q. ⌜ q ≡ kind? frames places r (r .backing) ⌝ }
+    ensures { λ q. ⌜ q ≡ kind? frames (spotted (now (spots .entry))) r (r .backing) ⌝ }
 {
     let k = r.backing;
     match k {
         BackingPages::Nothing => false,
         BackingPages::Single(b) => {
-            let t = stands(places, frames, b, 0);
+            let t = stands(spots, frames, b, 0);
             (0 < b) & ((r.length == 1) & ((r.offset == 0) & t))
         }
         BackingPages::Many(b) => (0 < b) & ((r.offset as usize) + (r.length as usize) <= 1048576),
@@ -64,9 +67,9 @@ pub fn ends_within(start: usize, length: u32) -> bool
 }
 
 // "Each range belongs to a live object, has length at least 1, ends by page 262,144", and its backing is as it should be.
-pub fn fine(r: PageRange, live: u32, frames: usize, places: [Place; 1024]) -> bool
+pub fn fine(r: PageRange, live: u32, frames: usize, spots: &[u64; 1024]) -> bool
     requires { ⌜ frames ≤ 1024 ⌝ }
-    ensures { λ q. ⌜ q ≡ fine? live frames places r ⌝ }
+    ensures { λ q. ⌜ q ≡ fine? live frames (spotted (now (spots .entry))) r ⌝ }
 {
     let object = r.object;
     if 31 < object {
@@ -74,7 +77,7 @@ pub fn fine(r: PageRange, live: u32, frames: usize, places: [Place; 1024]) -> bo
     }
     let t = is_live(live, object);
     let e = ends_within(r.start.0, r.length);
-    let k = kind(r, frames, places);
+    let k = kind(r, frames, spots);
     t & ((1 <= r.length) & (e & k))
 }
 
@@ -89,10 +92,11 @@ pub fn all_fine(
     requires { ⌜ (frames ≤ 1024) × (count ≤ 512) ⌝ }
     ensures { λ q. ⌜ q ≡ every (fine? live frames places) (take count ranges) ⌝ }
 {
+    let spots = columns::spots(places);
     let mut i: usize = 0;
     while i < count {
         let r = ranges[i];
-        if fine(r, live, frames, places) {
+        if fine(r, live, frames, &spots) {
             i += 1;
         } else {
             return false;
@@ -124,36 +128,23 @@ pub fn rising(ranges: [PageRange; 512], count: usize) -> bool
     true
 }
 
-// Two backings of one number are of one kind.
-pub fn same_kind(a: BackingPages, b: BackingPages) -> bool
-    ensures { λ q. ⌜ q ≡ alike a b ⌝ }
+// Two backings of one number, by their tags, are of one kind.
+pub fn same_kind(x: usize, y: usize) -> bool
+    ensures { λ q. ⌜ q ≡ alikeIn x y ⌝ }
 {
-    match a {
-        BackingPages::Nothing => true,
-        BackingPages::Single(m) => match b {
-            BackingPages::Nothing => true,
-            BackingPages::Single(_) => true,
-            BackingPages::Many(n) => m != n,
-        },
-        BackingPages::Many(m) => match b {
-            BackingPages::Nothing => true,
-            BackingPages::Single(n) => m != n,
-            BackingPages::Many(_) => true,
-        },
-    }
+    (x < 4294967296) | ((y < 4294967296) | ((x == y) | (x % 4294967296 != y % 4294967296)))
 }
 
-// One backing agrees with that of every range.
-pub fn agrees(a: BackingPages, ranges: [PageRange; 512], count: usize) -> bool
-    requires { ⌜ count ≤ 512 ⌝ }
-    ensures { λ q. ⌜ q ≡ every (λ b. alike a (b .backing)) (take count ranges) ⌝ }
+// The backing of range i agrees with that of every range before it: a walk along its chain.
+pub fn agrees(tags: &[usize; 1024], next: &[usize; 1024], i: usize) -> bool
+    requires { ⌜ (i < 1024) × Walk (now next) (alikeTo (now tags) i) i (getD (now next) i 0) ⌝ }
+    ensures { λ q. ⌜ q ≡ allBelow (alikeTo (now (tags .entry)) i) i ⌝ }
 {
-    let mut i: usize = 0;
-    while i < count {
-        let r = ranges[i];
-        let b = r.backing;
-        if same_kind(a, b) {
-            i += 1;
+    let y = tags[i];
+    let mut k = next[i];
+    while 0 < k {
+        if same_kind(tags[k - 1], y) {
+            k = next[k - 1];
         } else {
             return false;
         }
@@ -166,11 +157,12 @@ pub fn all_agree(ranges: [PageRange; 512], count: usize) -> bool
     requires { ⌜ count ≤ 512 ⌝ }
     ensures { λ q. ⌜ q ≡ every (λ a. every (λ b. alike (a .backing) (b .backing)) (take count ranges)) (take count ranges) ⌝ }
 {
+    let tags = columns::tags(ranges, count);
+    let chains = chains::chained(&tags, count);
+    let next = chains.next;
     let mut i: usize = 0;
     while i < count {
-        let r = ranges[i];
-        let a = r.backing;
-        if agrees(a, ranges, count) {
+        if agrees(&tags, &next, i) {
             i += 1;
         } else {
             return false;

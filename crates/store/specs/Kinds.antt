@@ -29,7 +29,7 @@ use Rattle.store.specs.Ranges.{usedOf, tabled-used}
 
 -- ---- kinds agree
 
-alike-self : (a : BackingPages) → alike a a ≡ true
+pub alike-self : (a : BackingPages) → alike a a ≡ true
 alike-self Nothing = refl
 alike-self (Single m) = refl
 alike-self (Many m) = refl
@@ -37,7 +37,7 @@ alike-self (Many m) = refl
 differ-sym : (m n : ℕ) → not (eqb m n) ≡ true → not (eqb n m) ≡ true
 differ-sym m n h = let e = ne-eqb n m (λ z. eqb-false m n (not-true (eqb m n) h) (sym z)) in rw e
 
-alike-sym : (a b : BackingPages) → alike a b ≡ true → alike b a ≡ true
+pub alike-sym : (a b : BackingPages) → alike a b ≡ true → alike b a ≡ true
 alike-sym Nothing Nothing h = refl
 alike-sym Nothing (Single n) h = refl
 alike-sym Nothing (Many n) h = refl

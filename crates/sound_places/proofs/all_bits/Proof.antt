@@ -4,18 +4,31 @@ use mathlib.Core.Bool.{true}
 use Prim.Native.Nat.{_-_, _≤_}
 use borrow.Author.Needs.{needs}
 use Rattle.lists.specs.Every.{allBelow, below-done, below-fails, below-next, below-zero}
+use Rattle.frames.specs.Free.{freeBit}
 use Rattle.store.specs.Sound.{bit?}
 use Rattle.sound_places.proofs.all_bits.Statement.{statement}
 use Rattle.sound_places.proofs.all_bits.Tie as tie
 
 abbrev Inv-loop : tie.InvT-loop
-Inv-loop free places frames i₀ i = (i ≤ 1024) × (allBelow (bit? frames places free) i ≡ true)
+Inv-loop frames free places i₀ i = (i ≤ 1024) × (allBelow (bit? frames places free) i ≡ true)
 
 abbrev μ-loop : tie.MeasureT-loop
-μ-loop free places frames i₀ i = 1024 - i
+μ-loop frames free places i₀ i = 1024 - i
 
 loop-holds : tie.Need-loop-holds Inv-loop μ-loop
-loop-holds c = let a = c .args in (search needs, below-zero (bit? (a .frames) (a .places) (a .free)))
+loop-holds c = let a = c .args in (search needs, below-zero (bit? (a .frames) (a .t2) (a .t1)))
+
+mul-w : tie.Need-mul-w Inv-loop μ-loop
+mul-w c = search needs
+
+array-read-w : tie.Need-array-read-w Inv-loop μ-loop
+array-read-w c = search needs
+
+mul-p : tie.Need-mul-p Inv-loop μ-loop
+mul-p c = search needs
+
+array-copy-out-p : tie.Need-array-copy-out-p Inv-loop μ-loop
+array-copy-out-p c = search needs
 
 bit-requires : tie.Need-bit-requires Inv-loop μ-loop
 bit-requires c κs = search needs
@@ -27,26 +40,41 @@ loop-less : tie.Need-loop-less Inv-loop μ-loop
 loop-less c = search needs
 
 loop-again : tie.Need-loop-again Inv-loop μ-loop
+unfolding freeBit
 loop-again c =
-    let a = c .before .before .before .before .args in
-    let l = c .before .before .before .loop in
+    let a = c .before .before .before .before .before .args in
+    let l = c .before .before .before .before .loop in
     let t = sym (c .before .bit .ensures) ∙ c .if1 .taken in
-    (search needs, below-next (bit? (a .frames) (a .places) (a .free)) (l .i) (l .inv .1) t)
+    (search needs, below-next (bit? (a .frames) (a .t2) (a .t1)) (l .i) (l .inv .1) t)
 
 returns : tie.Need-returns Inv-loop μ-loop
+unfolding freeBit
 returns c =
-    let a = c .before .before .before .before .args in
-    let l = c .before .before .before .loop in
+    let a = c .before .before .before .before .before .args in
+    let l = c .before .before .before .before .loop in
     let t = sym (c .before .bit .ensures) ∙ c .if1 .left in
-    below-fails (bit? (a .frames) (a .places) (a .free)) 1024 (l .i) (search needs) t
+    below-fails (bit? (a .frames) (a .t2) (a .t1)) 1024 (l .i) (search needs) t
 
 returns-2 : tie.Need-returns-2 Inv-loop μ-loop
 returns-2 c =
     let a = c .before .before .args in
     let l = c .before .loop in
-    below-done (bit? (a .frames) (a .places) (a .free)) 1024 (l .i) (l .inv .1) (search needs) (search needs)
+    below-done (bit? (a .frames) (a .t2) (a .t1)) 1024 (l .i) (l .inv .1) (search needs) (search needs)
 
 pub all-bits-spec : {M : Type 1} → statement M
 all-bits-spec =
     tie.close
-    (tie.spec Inv-loop μ-loop loop-holds bit-requires add-i loop-less loop-again returns returns-2)
+    (tie.spec
+    Inv-loop
+    μ-loop
+    loop-holds
+    mul-w
+    array-read-w
+    mul-p
+    array-copy-out-p
+    bit-requires
+    add-i
+    loop-less
+    loop-again
+    returns
+    returns-2)

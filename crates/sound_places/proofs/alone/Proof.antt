@@ -1,69 +1,82 @@
--- `sound_places::alone` meets its contract. The loop's invariant: the frames below `g` pass. The measure is the number of frames left. A free frame passes.
-use mathlib.Core.Path.{_≡_, sym, _∙_}
-use mathlib.Core.Bool.{true}
-use Prim.Native.Nat.{_-_, _≤_}
+-- `sound_places::alone` meets its contract. The loop's invariant: the walk along the chain is at link `g`. The measure is `g`. A free frame passes.
+use Prim.Native.Nat.{_-_}
 use borrow.Author.Needs.{needs}
-use Rattle.lists.specs.Every.{allBelow, below-done, below-fails, below-next, below-zero}
-use Rattle.store.specs.Sound.{alone?, apart?}
-use Rattle.places.specs.Places.{placeAt}
-use Rattle.store.specs.Loops.{alone-free}
+use Rattle.chains.specs.Walk.{Walk, walk-end, walk-hit, walk-less, walk-next}
+use Rattle.columns.specs.Columns.{spotted}
+use Rattle.store.specs.Sound.{alone?}
+use Rattle.sound_places.specs.Alone.{apartFrom, spot-apart, spot-free, spot-same}
 use Rattle.sound_places.proofs.alone.Statement.{statement}
 use Rattle.sound_places.proofs.alone.Tie as tie
 
 abbrev Inv-loop : tie.InvT-loop
-Inv-loop f places b g₀ g = (g ≤ f) × (allBelow (λ h. apart? (placeAt places h) (placeAt places f)) g ≡ true)
+Inv-loop spots next f x g₀ g = Walk next (apartFrom (spotted spots) f) f g
 
 abbrev μ-loop : tie.MeasureT-loop
-μ-loop f places b g₀ g = f - g
+μ-loop spots next f x g₀ g = g
 
-mul-b : tie.Need-mul-b Inv-loop μ-loop
-mul-b c = search needs
+mul-x : tie.Need-mul-x Inv-loop μ-loop
+mul-x c = search needs
 
-array-copy-out-b : tie.Need-array-copy-out-b Inv-loop μ-loop
-array-copy-out-b c = search needs
+element-copy-out-x : tie.Need-element-copy-out-x Inv-loop μ-loop
+element-copy-out-x c = search needs
 
 returns : tie.Need-returns Inv-loop μ-loop
-returns c = let a = c .before .before .before .args in alone-free (a .t1) (a .f) (c .if1 .taken)
+returns c = let a = c .before .before .args in spot-free (a .spots .now) (a .f) (c .if1 .taken)
+
+mul-g : tie.Need-mul-g Inv-loop μ-loop
+mul-g c = search needs
+
+element-copy-out-g : tie.Need-element-copy-out-g Inv-loop μ-loop
+element-copy-out-g c = search needs
 
 loop-holds : tie.Need-loop-holds Inv-loop μ-loop
-loop-holds c = let a = c .before .before .before .args in (search needs, below-zero (λ h. apart? (placeAt (a .t1) h) (placeAt (a .t1) (a .f))))
+loop-holds c = c .before .before .before .pre .1
 
-mul-a : tie.Need-mul-a Inv-loop μ-loop
-mul-a c = search needs
+sub-if2 : tie.Need-sub-if2 Inv-loop μ-loop
+sub-if2 c = search needs
 
-array-copy-out-a : tie.Need-array-copy-out-a Inv-loop μ-loop
-array-copy-out-a c = search needs
+mul-if2 : tie.Need-mul-if2 Inv-loop μ-loop
+mul-if2 c = search needs
 
-apart-requires : tie.Need-apart-requires Inv-loop μ-loop
-apart-requires c κs = search needs
+element-copy-out-if2 : tie.Need-element-copy-out-if2 Inv-loop μ-loop
+element-copy-out-if2 c = search needs
 
-add-g : tie.Need-add-g Inv-loop μ-loop
-add-g c = search needs
+returns-2 : tie.Need-returns-2 Inv-loop μ-loop
+unfolding alone?
+returns-2 c =
+    let a = c .before .before .before .before .before .before .before .args in
+    let l = c .before .before .before .loop in
+    let q = spot-same (a .spots .now) (a .f) (c .before .before .before .before .before .if1 .left) (l .g - 1) (c .if2 .taken) in
+    walk-hit (a .next .now) (apartFrom (spotted (a .spots .now)) (a .f)) (a .f) (l .g) (l .inv) (search needs) q
+
+sub-g : tie.Need-sub-g Inv-loop μ-loop
+sub-g c = search needs
+
+mul-g-2 : tie.Need-mul-g-2 Inv-loop μ-loop
+mul-g-2 c = search needs
+
+element-copy-out-g-2 : tie.Need-element-copy-out-g-2 Inv-loop μ-loop
+element-copy-out-g-2 c = search needs
 
 loop-less : tie.Need-loop-less Inv-loop μ-loop
-loop-less c = search needs
+loop-less c =
+    let a = c .before .before .before .before .before .before .before .before .args in
+    let l = c .before .before .before .before .loop in
+    walk-less (a .next .now) (apartFrom (spotted (a .spots .now)) (a .f)) (a .f) (l .g) (l .inv) (search needs)
 
 loop-again : tie.Need-loop-again Inv-loop μ-loop
 loop-again c =
     let a = c .before .before .before .before .before .before .before .before .args in
     let l = c .before .before .before .before .loop in
-    let t = sym (c .before .apart .ensures) ∙ c .if2 .taken in
-    (search needs, below-next (λ h. apart? (placeAt (a .t1) h) (placeAt (a .t1) (a .f))) (l .g) (l .inv .1) t)
-
-returns-2 : tie.Need-returns-2 Inv-loop μ-loop
-unfolding alone?
-returns-2 c =
-    let a = c .before .before .before .before .before .before .before .before .args in
-    let l = c .before .before .before .before .loop in
-    let t = sym (c .before .apart .ensures) ∙ c .if2 .left in
-    below-fails (λ h. apart? (placeAt (a .t1) h) (placeAt (a .t1) (a .f))) (a .f) (l .g) (search needs) t
+    let q = spot-apart (a .spots .now) (a .f) (c .before .before .before .before .before .before .if1 .left) (l .g - 1) (c .before .if2 .left) in
+    walk-next (a .next .now) (apartFrom (spotted (a .spots .now)) (a .f)) (a .f) (l .g) (l .inv) (search needs) q
 
 returns-3 : tie.Need-returns-3 Inv-loop μ-loop
 unfolding alone?
 returns-3 c =
     let a = c .before .before .before .before .before .args in
     let l = c .before .loop in
-    below-done (λ h. apart? (placeAt (a .t1) h) (placeAt (a .t1) (a .f))) (a .f) (l .g) (l .inv .1) (search needs) (search needs)
+    walk-end (a .next .now) (apartFrom (spotted (a .spots .now)) (a .f)) (a .f) (l .g) (l .inv) (search needs)
 
 pub alone-spec : {M : Type 1} → statement M
 alone-spec =
@@ -71,15 +84,19 @@ alone-spec =
     (tie.spec
     Inv-loop
     μ-loop
-    mul-b
-    array-copy-out-b
+    mul-x
+    element-copy-out-x
     returns
+    mul-g
+    element-copy-out-g
     loop-holds
-    mul-a
-    array-copy-out-a
-    apart-requires
-    add-g
+    sub-if2
+    mul-if2
+    element-copy-out-if2
+    returns-2
+    sub-g
+    mul-g-2
+    element-copy-out-g-2
     loop-less
     loop-again
-    returns-2
     returns-3)

@@ -2,31 +2,34 @@
 use mathlib.Core.Path.{_≡_, sym, _∙_}
 use mathlib.Core.Bool.{true}
 use Prim.Native.Nat.{_-_, _≤_}
+use native.Mathlib.Omega.{arith}
 use borrow.Author.Needs.{needs}
-use lib.ListN.{take}
-use Rattle.lists.specs.Every.{every, every-done, every-fails, every-next, every-none}
-use Rattle.table.specs.Table.{zeroRange}
-use Rattle.store.specs.Sound.{alike}
+use Rattle.lists.specs.Every.{allBelow, below-next, below-zero}
+use Rattle.sound_ranges.specs.Agree.{agree-all, agree-none, alikeTo, walk-agree}
 use Rattle.sound_ranges.proofs.all_agree.Statement.{statement}
 use Rattle.sound_ranges.proofs.all_agree.Tie as tie
 
 abbrev Inv-loop : tie.InvT-loop
-Inv-loop count ranges i₀ i = (i ≤ count) × (every (λ a. every (λ b. alike (a .backing) (b .backing)) (take count ranges)) (take i ranges) ≡ true)
+Inv-loop count tags next i₀ i = (i ≤ count) × (allBelow (λ j. allBelow (alikeTo tags j) j) i ≡ true)
 
 abbrev μ-loop : tie.MeasureT-loop
-μ-loop count ranges i₀ i = count - i
+μ-loop count tags next i₀ i = count - i
+
+tags-requires : tie.Need-tags-requires Inv-loop μ-loop
+tags-requires c κs = search needs
+
+chained-requires : tie.Need-chained-requires Inv-loop μ-loop
+chained-requires c κs = search needs
 
 loop-holds : tie.Need-loop-holds Inv-loop μ-loop
-loop-holds c = let a = c .args in (search needs, every-none (λ x. every (λ b. alike (x .backing) (b .backing)) (take (a .count) (a .t1))) (a .t1))
-
-mul-r : tie.Need-mul-r Inv-loop μ-loop
-mul-r c = search needs
-
-array-copy-out-r : tie.Need-array-copy-out-r Inv-loop μ-loop
-array-copy-out-r c = search needs
+loop-holds c = let t = c .before .before .before .tags in (search needs, below-zero (λ j. allBelow (alikeTo (t .result) j) j))
 
 agrees-requires : tie.Need-agrees-requires Inv-loop μ-loop
-agrees-requires c κs = search needs
+agrees-requires c κs =
+    let t = c .before .before .before .before .before .before .before .tags in
+    let h = c .before .before .before .before .before .chained in
+    let l = c .before .before .before .loop in
+    (search needs, walk-agree (t .result) (h .result .heads) (h .result .next) _ (l .i) (h .ensures) (search needs))
 
 add-i : tie.Need-add-i Inv-loop μ-loop
 add-i c = search needs
@@ -36,23 +39,24 @@ loop-less c = search needs
 
 loop-again : tie.Need-loop-again Inv-loop μ-loop
 loop-again c =
-    let a = c .before .before .before .before .before .args in
-    let l = c .before .before .before .before .loop in
-    let t = sym (c .before .agrees .ensures) ∙ c .if1 .taken in
-    (search needs, every-next (λ x. every (λ b. alike (x .backing) (b .backing)) (take (a .count) (a .t1))) (a .t1) (l .i) zeroRange (search needs) (l .inv .1) t)
+    let t = c .before .before .before .before .before .before .before .before .before .tags in
+    let l = c .before .before .before .before .before .loop in
+    (search needs, below-next (λ j. allBelow (alikeTo (t .result) j) j) (l .i) (l .inv .1) (sym (c .before .agrees .ensures) ∙ c .if1 .taken))
 
 returns : tie.Need-returns Inv-loop μ-loop
 returns c =
-    let a = c .before .before .before .before .before .args in
-    let l = c .before .before .before .before .loop in
-    let t = sym (c .before .agrees .ensures) ∙ c .if1 .left in
-    every-fails (λ x. every (λ b. alike (x .backing) (b .backing)) (take (a .count) (a .t1))) (a .t1) (a .count) (l .i) zeroRange (search needs) (search needs) t
+    let a = c .before .before .before .before .before .before .before .before .before .before .args in
+    let t = c .before .before .before .before .before .before .before .before .before .tags in
+    let l = c .before .before .before .before .before .loop in
+    agree-none (a .ranges) (t .result) (a .count) (search needs) (t .ensures) (l .i) (search needs) (sym (c .before .agrees .ensures) ∙ c .if1 .left)
 
 returns-2 : tie.Need-returns-2 Inv-loop μ-loop
 returns-2 c =
-    let a = c .before .before .args in
+    let a = c .before .before .before .before .before .before .args in
+    let t = c .before .before .before .before .before .tags in
     let l = c .before .loop in
-    every-done (λ x. every (λ b. alike (x .backing) (b .backing)) (take (a .count) (a .t1))) (a .t1) (a .count) (l .i) (l .inv .1) (search needs) (search needs)
+    let e : l .i ≡ a .count = omega arith in
+    agree-all (a .ranges) (t .result) (a .count) (search needs) (t .ensures) (rw (← e) (l .inv .1))
 
 pub all-agree-spec : {M : Type 1} → statement M
 all-agree-spec =
@@ -60,9 +64,9 @@ all-agree-spec =
     (tie.spec
     Inv-loop
     μ-loop
+    tags-requires
+    chained-requires
     loop-holds
-    mul-r
-    array-copy-out-r
     agrees-requires
     add-i
     loop-less

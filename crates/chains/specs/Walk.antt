@@ -1,0 +1,86 @@
+-- A test of every entry below m that goes along one chain only, since all entries outside of the chain pass.
+use mathlib.Core.Path.{_≡_, refl, sym, ap, _∙_}
+use mathlib.Core.Bool.{Bool, true, false}
+use mathlib.Core.List.{List}
+use Prim.Native.Nat.{ℕ, zero, suc, _-_, _%_, _≤_, _<_}
+use native.Mathlib.Nat.{le-refl, not-suc-le-zero}
+use native.Mathlib.Omega.{arith}
+use lib.ListN.{getD}
+use borrow.Author.Tests.{eqb-true}
+use Rattle.lists.specs.Every.{allBelow, below-fails, below-zero}
+use Rattle.chains.specs.Chains.{Chained, inChain, last-all, last-hit, last-le, lastBelow}
+
+-- the walk along `ns` is at link k: the entries below k answer as all below m do
+pub record Walk (ns : List ℕ) (Q : ℕ → Bool) (m k : ℕ) : Type 0 where
+  pub keys : List ℕ
+  pub chain : ℕ
+  pub links : (i : ℕ) → i < m → getD ns i 0 ≡ lastBelow (inChain keys (getD keys i 0 % 1024)) i
+  pub over : (j : ℕ) → j < m → inChain keys chain j ≡ false → Q j ≡ true
+  pub low : k ≤ m
+  pub inside : 0 < k → inChain keys chain (k - 1) ≡ true
+  pub same : allBelow Q k ≡ allBelow Q m
+
+-- a walk goes on at the chain's last entry below p, where the entries from p on have passed
+goes-on : (ks ns : List ℕ) (Q : ℕ → Bool) (h m p k : ℕ) → ((i : ℕ) → i < m → getD ns i 0 ≡ lastBelow (inChain ks (getD ks i 0 % 1024)) i)
+    → ((j : ℕ) → j < m → inChain ks h j ≡ false → Q j ≡ true) → p ≤ m → allBelow Q p ≡ allBelow Q m → k ≡ lastBelow (inChain ks h) p → Walk ns Q m k
+goes-on ks ns Q h m p k L O b s e =
+    rw e
+    (record {
+      keys = ks;
+      chain = h;
+      links = L;
+      over = O;
+      low = omega (arith, last-le (inChain ks h) p);
+      inside = last-hit (inChain ks h) p;
+      same = last-all (inChain ks h) Q p (λ j l. O j (omega arith)) ∙ s;
+    })
+
+module _ (ks hs ns : List ℕ) (n : ℕ) (C : Chained ks n hs ns) (Q : ℕ → Bool) where
+  -- through all of a chain
+  pub walk-all : (h : ℕ) → h < 1024 → ((j : ℕ) → j < n → inChain ks h j ≡ false → Q j ≡ true) → Walk ns Q n (getD hs h 0)
+  walk-all h b O = goes-on ks ns Q h n n (getD hs h 0) (C .next) O (le-refl n) refl (C .heads h b)
+
+  -- through the entries of a chain before entry i
+  pub walk-before : (i : ℕ) → i < n → ((j : ℕ) → j < i → inChain ks (getD ks i 0 % 1024) j ≡ false → Q j ≡ true) → Walk ns Q i (getD ns i 0)
+  walk-before i b O = goes-on ks ns Q (getD ks i 0 % 1024) i i (getD ns i 0) (λ j l. C .next j (omega arith)) O (le-refl i) refl (C .next i b)
+
+module _ (ns : List ℕ) (Q : ℕ → Bool) (m k : ℕ) (W : Walk ns Q m k) where
+  -- the link that the walk goes on at
+  onward : 0 < k → getD ns (k - 1) 0 ≡ lastBelow (inChain (W .keys) (W .chain)) (k - 1)
+  onward h =
+      let l = W .low in
+      let e : getD (W .keys) (k - 1) 0 % 1024 ≡ W .chain = eqb-true (getD (W .keys) (k - 1) 0 % 1024) (W .chain) (W .inside h) in
+      W .links (k - 1) (omega arith) ∙ ap (λ (c : ℕ). lastBelow (inChain (W .keys) c) (k - 1)) e
+
+  pub walk-less : 0 < k → getD ns (k - 1) 0 < k
+  walk-less h = omega (arith, onward h, last-le (inChain (W .keys) (W .chain)) (k - 1))
+
+  pub walk-next : 0 < k → Q (k - 1) ≡ true → Walk ns Q m (getD ns (k - 1) 0)
+  unfolding allBelow
+  walk-next h q =
+      let l = W .low in
+      goes-on (W .keys) ns Q (W .chain) m (k - 1) (getD ns (k - 1) 0) (W .links) (W .over) (omega arith) (one k h q ∙ W .same) (onward h)
+    where
+      one : (i : ℕ) → 0 < i → Q (i - 1) ≡ true → allBelow Q (i - 1) ≡ allBelow Q i
+      one zero p e = absurd (not-suc-le-zero p)
+      one (suc i) p e = let q : suc i - 1 ≡ i = omega arith in rw q (rw (rw q at e))
+
+  pub walk-hit : 0 < k → Q (k - 1) ≡ false → false ≡ allBelow Q m
+  walk-hit h q = below-fails Q k (k - 1) (omega arith) q ∙ W .same
+
+  pub walk-end : k ≤ 0 → true ≡ allBelow Q m
+  walk-end h = let e : k ≡ 0 = omega arith in sym (below-zero Q) ∙ ap (allBelow Q) (sym e) ∙ W .same
+
+  -- the entries below k by themselves
+  pub walk-here : Walk ns Q k k
+  walk-here =
+      let l = W .low in
+      record {
+        keys = W .keys;
+        chain = W .chain;
+        links = λ i p. W .links i (omega arith);
+        over = λ j p. W .over j (omega arith);
+        low = le-refl k;
+        inside = W .inside;
+        same = refl;
+      }

@@ -1,0 +1,74 @@
+-- Frames at one place are in one chain, so that a frame is compared with those of its chain only.
+use mathlib.Core.Path.{_≡_, refl, sym, ap, _∙_}
+use mathlib.Core.Bool.{Bool, true, false, not, _||_, false≢true}
+use mathlib.Core.List.{List}
+use Prim.Native.Nat.{ℕ, _+_, _*_, _/_, _%_, _<_}
+use native.Mathlib.Omega.{arith}
+use lib.Dec.{eqb}
+use lib.ListN.{getD}
+use borrow.Author.Tests.{eq-eqb, ne-eqb}
+use Rattle.places.specs.declared.Place.{Place}
+use Rattle.lists.specs.Test.{pick, by-eq}
+use Rattle.places.specs.Places.{placeAt}
+use Rattle.chains.specs.Chains.{Chained, inChain}
+use Rattle.chains.specs.Walk.{Walk, walk-before}
+use Rattle.columns.specs.Columns.{Filled, spot-at, spotted}
+use Rattle.store.specs.Sound.{alone?, apart?}
+use Rattle.store.specs.Loops.{alone-free}
+
+-- the key of frame f at spot x. Free frames, which are compared with none, are spread over all chains.
+abbrev pub keyOf : ℕ → ℕ → ℕ
+keyOf x f = pick (eqb (x / 4294967296) 0) f (x / 4294967296 * 633 + x % 4294967296)
+
+-- the keys of the first n frames
+abbrev pub Keys : List ℕ → ℕ → List ℕ → Type 0
+Keys xs n ks = Filled (λ f k. k ≡ keyOf (getD xs f 0) f) n ks
+
+-- frame g does not stand at the place of frame f
+abbrev pub apartFrom : List Place → ℕ → ℕ → Bool
+apartFrom ps f g = apart? (placeAt ps g) (placeAt ps f)
+
+module _ (xs : List ℕ) (f : ℕ) where
+  pub spot-free : getD xs f 0 / 4294967296 ≡ 0 → true ≡ alone? (spotted xs) f
+  spot-free e = alone-free (spotted xs) f (rw (spot-at xs f) e)
+
+  pub spot-free-apart : (g : ℕ) → getD xs f 0 / 4294967296 ≡ 0 → apartFrom (spotted xs) f g ≡ true
+  spot-free-apart g e = rw (spot-at xs f, eq-eqb (getD xs f 0 / 4294967296) 0 e)
+
+  -- a frame in use, and a frame at its spot or not
+  module _ (used : getD xs f 0 / 4294967296 ≡ 0 → ⊥) (g : ℕ) where
+    pub spot-same : getD xs g 0 ≡ getD xs f 0 → apartFrom (spotted xs) f g ≡ false
+    spot-same e =
+        let b : eqb (getD xs f 0 / 4294967296) (getD xs f 0 / 4294967296) ≡ true = eq-eqb (getD xs f 0 / 4294967296) (getD xs f 0 / 4294967296) refl in
+        let i : eqb (getD xs f 0 % 4294967296) (getD xs f 0 % 4294967296) ≡ true = eq-eqb (getD xs f 0 % 4294967296) (getD xs f 0 % 4294967296) refl in
+        rw (spot-at xs f, spot-at xs g, e, ne-eqb (getD xs f 0 / 4294967296) 0 used, b, i)
+
+    pub spot-apart : (getD xs g 0 ≡ getD xs f 0 → ⊥) → apartFrom (spotted xs) f g ≡ true
+    spot-apart h = rw (spot-at xs f, spot-at xs g, ne-eqb (getD xs f 0 / 4294967296) 0 used) (differ (getD xs g 0) (getD xs f 0) h)
+      where
+        differ : (y x : ℕ) → (y ≡ x → ⊥) → (not (eqb (y / 4294967296) (x / 4294967296)) || not (eqb (y % 4294967296) (x % 4294967296))) ≡ true
+        differ y x h =
+            by-eq (y / 4294967296) (x / 4294967296)
+            (λ e. by-eq (y % 4294967296) (x % 4294967296)
+            (λ i. absurd (h (omega arith)))
+            (λ i. rw (eq-eqb (y / 4294967296) (x / 4294967296) e, ne-eqb (y % 4294967296) (x % 4294967296) i)))
+            (λ e. rw (ne-eqb (y / 4294967296) (x / 4294967296) e))
+
+  -- a frame outside of the chain of frame f does not stand at its place
+  pub spot-over : (n : ℕ) (ks : List ℕ) → Keys xs n ks → f < n → (g : ℕ) → g < f → inChain ks (getD ks f 0 % 1024) g ≡ false → apartFrom (spotted xs) f g ≡ true
+  spot-over n ks K l g b o =
+      by-eq (getD xs f 0 / 4294967296) 0
+      (λ z. spot-free-apart g z)
+      (λ z. by-eq (getD xs g 0) (getD xs f 0)
+      (λ e. absurd (false≢true (sym o ∙ eq-eqb (getD ks g 0 % 1024) (getD ks f 0 % 1024) (ap (λ (k : ℕ). k % 1024) (met z e)))))
+      (λ e. spot-apart z g e))
+    where
+      met : (getD xs f 0 / 4294967296 ≡ 0 → ⊥) → getD xs g 0 ≡ getD xs f 0 → getD ks g 0 ≡ getD ks f 0
+      met z e =
+          let p : getD ks f 0 ≡ keyOf (getD xs f 0) f = K .each f l in
+          let q : getD ks g 0 ≡ keyOf (getD xs g 0) g = K .each g (omega arith) in
+          let r : eqb (getD xs f 0 / 4294967296) 0 ≡ false = ne-eqb (getD xs f 0 / 4294967296) 0 z in
+          rw (p, q, e, r)
+
+  pub walk-alone : (n : ℕ) (ks hs ns : List ℕ) → Keys xs n ks → Chained ks n hs ns → f < n → Walk ns (apartFrom (spotted xs) f) f (getD ns f 0)
+  walk-alone n ks hs ns K C l = walk-before ks hs ns n C (apartFrom (spotted xs) f) f l (spot-over n ks K l)
