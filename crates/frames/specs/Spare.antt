@@ -7,7 +7,6 @@ use Prim.Native.Nat.{ℕ, zero, suc, _+_, _≤_, _<_}
 use native.Mathlib.Nat.{eq-or-lt-of-le, le-of-suc-le-suc, not-suc-le-zero}
 use native.Mathlib.Omega.{arith}
 use borrow.Author.Tests.{eq-eqb, eqb-true}
-use lib.ListN.{length}
 use Rattle.lists.specs.Test.{by-test}
 use Rattle.lists.specs.Every.{All}
 use Rattle.frames.specs.declared.Frame.the-variants.{At, Nothing}
@@ -83,23 +82,9 @@ module _ (ws : List ℕ) where
       let b = rw q at (spare-set n) in
       (q, a .0, b .0)
 
-  pub head-found : (n f : ℕ) (fs : List ℕ) → spareOf ws n ≡ f ∷ fs → highestBelow ws n ≡ At f
-  head-found n f fs e = highest-head n ∙ ap headOf e
-
-  -- none is found exactly if the list is empty
+  -- none is found: the list is empty
   pub highest-none : (n : ℕ) → highestBelow ws n ≡ Nothing → spareOf ws n ≡ []
   highest-none n e = none-is (spareOf ws n) (sym (highest-head n) ∙ e)
-
-  pub none-highest : (n : ℕ) → spareOf ws n ≡ [] → highestBelow ws n ≡ Nothing
-  none-highest n e = highest-head n ∙ ap headOf e
-
-  -- a list that is not empty: one is found
-  pub some-highest : (n : ℕ) → 0 < length (spareOf ws n) → (f : ℕ) × (highestBelow ws n ≡ At f)
-  some-highest n h = go (spareOf ws n) refl h
-    where
-      go : (l : List ℕ) → spareOf ws n ≡ l → 0 < length l → (f : ℕ) × (highestBelow ws n ≡ At f)
-      go [] e h = absurd (not-suc-le-zero h)
-      go (f ∷ fs) e h = (f, highest-head n ∙ ap headOf e)
 
 -- ---- the highest free frame taken out of the map leaves the tail
 pub spare-taken : (ws r : List ℕ) (n f : ℕ) → TakenOut ws f r → highestBelow ws n ≡ At f → spareOf r n ≡ tail (spareOf ws n)

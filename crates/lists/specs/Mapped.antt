@@ -1,11 +1,11 @@
 -- Loops that replace each element by a function of it.
 use mathlib.Core.Path.{_≡_, refl, sym, ap, _∙_}
-use mathlib.Core.List.{List, [], _∷_, _++_, append-nil, map}
+use mathlib.Core.List.{List, [], _∷_, _++_, map}
 use Prim.Native.Nat.{ℕ, suc, _+_, _<_}
 use native.Mathlib.Numerals.{add-one}
 use native.Mathlib.Omega.{arith}
 use lib.ListN.{length, take, drop, getD, set, length-map}
-use lib.Seq.{length-take-le, drop-cons, take-suc, set-at, append-snoc, getD-at, take-length, drop-length}
+use lib.Seq.{length-take-le, drop-cons, take-suc, set-at, append-snoc, getD-at}
 
 -- The loop that replaces each element by g of it, from the front.
 module _ {A : Type 0} (g : A → A) where
@@ -33,7 +33,3 @@ module _ {A : Type 0} (g : A → A) where
   mapped-rest l cur i z h e =
       let n : length (map g (take i l)) ≡ i = length-map (take i l) g ∙ length-take-le i l (omega arith) in
       rw (e, drop-cons l i z h) (getD-at (map g (take i l)) (getD l i z) (drop (suc i) l) z i n)
-
-  pub mapped-all : (l : List A) (n : ℕ) → length l ≡ n → mapped l n ≡ map g l
-  unfolding mapped
-  mapped-all l n e = rw (← e, take-length l, drop-length l) (append-nil (map g l))

@@ -1,5 +1,5 @@
 ghost use mathlib.Core.Path.{_≡_};
-ghost use Prim.Native.Nat.{_+_, _-_, _*_, _/_, _%_, _≤_, _<_, min};
+ghost use Prim.Native.Nat.{_+_, _-_, _*_, _/_, _%_, _≤_, _<_, max, min};
 
 // A page of an object, counted from 0: "a number of its own, never mixed with a byte offset or a frame number".
 pub struct PageNumber(pub usize);
@@ -97,4 +97,23 @@ impl PageNumber {
     {
         self.0 - earlier.0
     }
+}
+
+// The larger of two numbers, and the smaller.
+pub fn larger(a: usize, b: usize) -> usize
+    ensures { λ r. ⌜ r ≡ max a b ⌝ }
+{
+    if a < b {
+        return b;
+    }
+    a
+}
+
+pub fn smaller(a: usize, b: usize) -> usize
+    ensures { λ r. ⌜ r ≡ min a b ⌝ }
+{
+    if a < b {
+        return a;
+    }
+    b
 }

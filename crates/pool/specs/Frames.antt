@@ -51,37 +51,6 @@ module _ (size : ℕ) where
   pub read-frame : (o : List ℕ) (at : ℕ) (d : List ℕ) (f k n : ℕ) → k + n ≤ size → paste o at (drop (f * size + k) d) n ≡ paste o at (drop k (frameAt size d f)) n
   read-frame o at d f k n h = paste-same o at (drop (f * size + k) d) (drop k (frameAt size d f)) n (frame-part d f k n h)
 
-  -- ---- n bytes from place j of frame g stored at place k of frame f (copy_within, move_within)
-  module _ (d : List ℕ) (f k g j n : ℕ) (inside : f * size + size ≤ length d) (source : g * size + size ≤ length d) (fits : k + n ≤ size) (has : j + n ≤ size) where
-    there : n ≤ length (drop (g * size + j) d)
-    there = simp length-drop (omega arith)
-
-    pub moved-frame : frameAt size (paste d (f * size + k) (drop (g * size + j) d) n) f ≡ paste (frameAt size d f) k (drop j (frameAt size d g)) n
-    moved-frame = paste-frame d f k (drop (g * size + j) d) n inside fits there ∙ read-frame (frameAt size d f) k d g j n has
-
-    pub moved-other : (h : ℕ) → (h ≡ f → ⊥) → frameAt size (paste d (f * size + k) (drop (g * size + j) d) n) h ≡ frameAt size d h
-    moved-other = paste-other d f k (drop (g * size + j) d) n inside fits there
-
-    pub moved-length : length (paste d (f * size + k) (drop (g * size + j) d) n) ≡ length d
-    moved-length = paste-length d f k (drop (g * size + j) d) n inside fits there
-
-  -- ---- n bytes from place k of frame f set to b (fill)
-  module _ (d : List ℕ) (f k n b : ℕ) (inside : f * size + size ≤ length d) (fits : k + n ≤ size) where
-    enough : n ≤ length (replicate n b)
-    enough = omega (arith, length-replicate n b)
-
-    pub filled-frame : frameAt size (filled d (f * size + k) n b) f ≡ filled (frameAt size d f) k n b
-    unfolding filled
-    filled-frame = paste-frame d f k (replicate n b) n inside fits enough
-
-    pub filled-other : (g : ℕ) → (g ≡ f → ⊥) → frameAt size (filled d (f * size + k) n b) g ≡ frameAt size d g
-    unfolding filled
-    filled-other = paste-other d f k (replicate n b) n inside fits enough
-
-    pub filled-length : length (filled d (f * size + k) n b) ≡ length d
-    unfolding filled
-    filled-length = paste-length d f k (replicate n b) n inside fits enough
-
   -- ---- a whole frame stored
   module _ (d : List ℕ) (f : ℕ) (s : List ℕ) (inside : f * size + size ≤ length d) (whole : length s ≡ size) where
     at-start : paste d (f * size) s size ≡ paste d (f * size + 0) s size

@@ -7,7 +7,7 @@ use table::PageRange;
 ghost use mathlib.Core.Path.{_≡_};
 ghost use mathlib.Core.Bool.{false, not, _||_};
 ghost use mathlib.Core.List.{List};
-ghost use Prim.Native.Nat.{ℕ, _+_, _*_, _≤_, _<_, min, max};
+ghost use Prim.Native.Nat.{ℕ, _+_, _*_, _≤_, _<_};
 ghost use lib.Dec.{ltb};
 ghost use lib.ListN.{getD, length};
 ghost use Rattle.ranges.specs.Table.{parts};
@@ -299,25 +299,6 @@ fn counted_parts(s: Store, object: u32, offset: usize, n: usize, absent: usize) 
     a + b
 }
 
-// The larger of two numbers, and the smaller.
-fn larger(a: usize, b: usize) -> usize
-    ensures { λ r. ⌜ r ≡ max a b ⌝ }
-{
-    if a < b {
-        return b;
-    }
-    a
-}
-
-fn smaller(a: usize, b: usize) -> usize
-    ensures { λ r. ⌜ r ≡ min a b ⌝ }
-{
-    if a < b {
-        return a;
-    }
-    b
-}
-
 // Whether a range has pages from a up to e of the line.
 fn meets(r: PageRange, a: usize, e: usize) -> bool
     requires { ⌜ Small r ⌝ }
@@ -325,7 +306,7 @@ fn meets(r: PageRange, a: usize, e: usize) -> bool
 {
     let f = r.first();
     let t = r.end();
-    larger(a, f) < smaller(e, t)
+    page::larger(a, f) < page::smaller(e, t)
 }
 
 // How many ranges have pages from a up to e of the line.
@@ -410,7 +391,7 @@ fn lacking_zero(s: Store, object: u32, offset: usize, n: usize) -> u8
 {
     let f = counted_parts(s, object, offset, n, 0);
     let p = PageNumber::span_of(offset, n);
-    lacking(s, f, smaller(1, p.whole))
+    lacking(s, f, page::smaller(1, p.whole))
 }
 
 pub fn zero(s: Store, pool: usize, object: u32, offset: usize, n: usize) -> u8

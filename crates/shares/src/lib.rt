@@ -5,7 +5,7 @@ use table::PageRange;
 use table::Piece;
 ghost use mathlib.Core.Path.{_≡_};
 ghost use mathlib.Core.List.{List};
-ghost use Prim.Native.Nat.{ℕ, _+_, _-_, _*_, _≤_, _<_, min, max};
+ghost use Prim.Native.Nat.{ℕ, _+_, _-_, _*_, _≤_, _<_, min};
 ghost use Rattle.ranges.specs.Range.{line};
 ghost use Rattle.book.specs.Pages as pages;
 ghost use Rattle.table.specs.Table.{Small, Table};
@@ -47,34 +47,14 @@ fn put_and_trim(s: Store, n: PageRange) -> Store
     with_table(s, ranges, t.count)
 }
 
-// The later of two pages of the line.
-fn later(a: usize, b: usize) -> usize
-    ensures { λ r. ⌜ r ≡ max a b ⌝ }
-{
-    if a < b {
-        return b;
-    }
-    a
-}
-
-// The earlier of two.
-fn earlier(a: usize, b: usize) -> usize
-    ensures { λ r. ⌜ r ≡ min a b ⌝ }
-{
-    if a < b {
-        return a;
-    }
-    b
-}
-
 // The part of a range between the pages a and e of the line, as a range of `object` whose page `to` stands for a.
 fn moved_part(r: PageRange, a: usize, e: usize, object: u32, to: PageNumber) -> Piece
     requires { ⌜ (Small r) × (to .0 + (e - a) ≤ 262144) ⌝ }
     ensures { λ q. ⌜ IsMoved a e object (to .0) r q ⌝ }
 {
     let s = r.first();
-    let b = later(a, s);
-    let t = earlier(e, r.end());
+    let b = page::larger(a, s);
+    let t = page::smaller(e, r.end());
     if t <= b {
         return Piece::Empty;
     }

@@ -4,9 +4,6 @@ use Rattle.look.specs.Look.{located}
 use Rattle.look.specs.declared.PageAt.the-variants.{Absent, Present}
 use Rattle.pages.specs.Inside.{inside-table, inside-room}
 use Rattle.pages.specs.Steps.{absent-stepped}
-use Rattle.pages.specs.Steps.{absent-stepped}
-use Rattle.pages.specs.Steps.{absent-stepped}
-use Rattle.pages.specs.Steps.{absent-stepped}
 use Rattle.pages.specs.Present.{located-held, located-absent, absent-room}
 use borrow.Author.Needs.{needs}
 use Rattle.pages.proofs.make_writable.Statement.{statement}

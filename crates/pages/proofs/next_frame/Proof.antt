@@ -7,7 +7,6 @@ use Prim.Native.Nat.{ℕ}
 use lib.ListN.{length}
 use Rattle.frames.specs.Free.{spareOf}
 use Rattle.frames.specs.Spare.{highest-none}
-use native.Mathlib.Omega.{arith}
 use borrow.Author.Needs.{needs}
 use Rattle.pages.proofs.next_frame.Statement.{statement}
 use Rattle.pages.proofs.next_frame.Tie as tie

@@ -7,14 +7,14 @@ use Rattle.shares.proofs.moved_part.Tie as tie
 first-requires : tie.Need-first-requires
 first-requires c κs = search needs
 
-later-requires : tie.Need-later-requires
-later-requires c κs = search needs
+larger-requires : tie.Need-larger-requires
+larger-requires c κs = search needs
 
 end-requires : tie.Need-end-requires
 end-requires c κs = search needs
 
-earlier-requires : tie.Need-earlier-requires
-earlier-requires c κs = search needs
+smaller-requires : tie.Need-smaller-requires
+smaller-requires c κs = search needs
 
 returns : tie.Need-returns
 returns c = search needs
@@ -45,16 +45,16 @@ returns-2 c =
     let a = c .before .before .before .before .before .before .before .args in
     is-moved (a .a) (a .e) (a .object) (a .to .0) (a .r) (c .before .offset .result) _ _ _ _
     (c .before .before .before .before .before .before .first .ensures) (c .before .before .before .before .end .ensures)
-    (c .before .before .before .before .before .later .ensures) (c .before .before .before .earlier .ensures) (omega arith) (c .before .offset .ensures)
+    (c .before .before .before .before .before .larger .ensures) (c .before .before .before .smaller .ensures) (omega arith) (c .before .offset .ensures)
 
 pub moved-part-spec : {M : Type 1} → statement M
 moved-part-spec =
     tie.close
     (tie.spec
     first-requires
-    later-requires
+    larger-requires
     end-requires
-    earlier-requires
+    smaller-requires
     returns
     sub-offset
     offset-requires
