@@ -17,7 +17,7 @@ use Rattle.store.specs.Abs.{cellsOf, bookOf}
 use Rattle.store.specs.Sound.{Sized}
 use Rattle.store.specs.Iff.{says-sound}
 use Rattle.store.specs.Spare.{workOf, entry-work}
-use Rattle.store.specs.Back.{store-sound}
+use Rattle.store.specs.Back.{store-sound, sound-besides}
 use Rattle.store.specs.Pool.{pool-same, pool-left}
 use Rattle.refuse.specs.Refuse.{refusal}
 use Rattle.calls.specs.Calls.{zero-sound}
@@ -80,6 +80,10 @@ module _ (s : Store) (x : List ℕ) (Z : Sized s) where
       let q : perform (bookOf s x) (write o off d) ≡ record { answer = done; book = leave (bookOf s x) w } =
       ap (λ u. record { answer = done; book = leave (bookOf s x) (writing o off d u) }) (entry-work s Z (with-sound (write o off d) s x r) x) in
       finish (write o off d) s x Z r l done w q t y (W .work) (W .inside) (W .frames) (W .live) m M (goes-pool _ (W .upto) t y (W .changed) (W .inside) (W .frames) l)
+
+  -- bytes written where they are: the store stays, and its free map is right
+  pub write-stays : (o off : ℕ) (d : List ℕ) → 0 ≡ refusal s x (write o off d) → (y : List ℕ) → Written s x o off d s y → DidWith (write o off d) s x 0 done s y
+  write-stays o off d r y W = write-done o off d r s y W (s .free) (sound-besides s Z (with-sound (write o off d) s x r) .bits)
 
   -- BYTES READ: the store and the pool stay
   pub read-done : (o off n : ℕ) → 0 ≡ refusal s x (read o off n) → (buf : List ℕ) → buf ≡ reading o off n (entry (bookOf s x))

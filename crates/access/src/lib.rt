@@ -67,17 +67,26 @@ pub fn read(s: Store, pool: &[u8], object: u32, offset: usize, buf: &mut [u8]) -
     0
 }
 
+// The pages that are present and private are written where they are; from the first other one on the store changes.
 pub fn write(s: Store, pool: &mut [u8], object: u32, offset: usize, src: &[u8]) -> Reply
     ensures { λ r. ⌜ DidWith (write object offset (now (src .entry))) s (now (pool .entry)) (r .number) done (r .store) (now (pool .exit)) ⌝ }
 {
-    let k = refuse::write(s, pool.len(), object, offset, src.len());
+    let n = src.len();
+    let k = refuse::write(s, pool.len(), object, offset, n);
     if 0 < k {
         return Reply {
             number: k,
             store: s,
         };
     }
-    let w = writes::write_pages(s, pool, object, offset, src);
+    let done = writes::overwrite_pages(s, pool, object, offset, src);
+    if done == n {
+        return Reply {
+            number: 0,
+            store: s,
+        };
+    }
+    let w = writes::write_pages(s, pool, object, offset + done, &src[done..]);
     let t = closed(w);
     Reply {
         number: 0,

@@ -43,10 +43,14 @@ module _ (P : ℕ → Bool) where
 abbrev pub inChain : List ℕ → ℕ → ℕ → Bool
 inChain ks h k = eqb (getD ks k 0 % 1024) h
 
+-- the links of the first n entries: each leads to the last entry before it of its chain
+abbrev pub Linked : List ℕ → ℕ → List ℕ → Type 0
+Linked ks n ns = (i : ℕ) → i < n → getD ns i 0 ≡ lastBelow (inChain ks (getD ks i 0 % 1024)) i
+
 -- the chains of the first n entries
 pub record Chained (ks : List ℕ) (n : ℕ) (hs ns : List ℕ) : Type 0 where
   pub heads : (h : ℕ) → h < 1024 → getD hs h 0 ≡ lastBelow (inChain ks h) n
-  pub next : (i : ℕ) → i < n → getD ns i 0 ≡ lastBelow (inChain ks (getD ks i 0 % 1024)) i
+  pub next : Linked ks n ns
 
 -- ---- one entry more
 module _ (P : ℕ → Bool) (n : ℕ) where

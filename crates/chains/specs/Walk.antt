@@ -8,21 +8,20 @@ use native.Mathlib.Omega.{arith}
 use lib.ListN.{getD}
 use borrow.Author.Tests.{eqb-true}
 use Rattle.lists.specs.Every.{allBelow, below-fails, below-zero}
-use Rattle.chains.specs.Chains.{Chained, inChain, last-all, last-hit, last-le, lastBelow}
+use Rattle.chains.specs.Chains.{Chained, Linked, inChain, last-all, last-hit, last-le, lastBelow}
 
 -- the walk along `ns` is at link k: the entries below k answer as all below m do
 pub record Walk (ns : List ℕ) (Q : ℕ → Bool) (m k : ℕ) : Type 0 where
   pub keys : List ℕ
   pub chain : ℕ
-  pub links : (i : ℕ) → i < m → getD ns i 0 ≡ lastBelow (inChain keys (getD keys i 0 % 1024)) i
+  pub links : Linked keys m ns
   pub over : (j : ℕ) → j < m → inChain keys chain j ≡ false → Q j ≡ true
   pub low : k ≤ m
   pub inside : 0 < k → inChain keys chain (k - 1) ≡ true
   pub same : allBelow Q k ≡ allBelow Q m
 
 -- a walk goes on at the chain's last entry below p, where the entries from p on have passed
-goes-on : (ks ns : List ℕ) (Q : ℕ → Bool) (h m p k : ℕ) → ((i : ℕ) → i < m → getD ns i 0 ≡ lastBelow (inChain ks (getD ks i 0 % 1024)) i)
-    → ((j : ℕ) → j < m → inChain ks h j ≡ false → Q j ≡ true) → p ≤ m → allBelow Q p ≡ allBelow Q m → k ≡ lastBelow (inChain ks h) p → Walk ns Q m k
+goes-on : (ks ns : List ℕ) (Q : ℕ → Bool) (h m p k : ℕ) → Linked ks m ns → ((j : ℕ) → j < m → inChain ks h j ≡ false → Q j ≡ true) → p ≤ m → allBelow Q p ≡ allBelow Q m → k ≡ lastBelow (inChain ks h) p → Walk ns Q m k
 goes-on ks ns Q h m p k L O b s e =
     rw e
     (record {
@@ -35,14 +34,19 @@ goes-on ks ns Q h m p k L O b s e =
       same = last-all (inChain ks h) Q p (λ j l. O j (omega arith)) ∙ s;
     })
 
-module _ (ks hs ns : List ℕ) (n : ℕ) (C : Chained ks n hs ns) (Q : ℕ → Bool) where
-  -- through all of a chain
-  pub walk-all : (h : ℕ) → h < 1024 → ((j : ℕ) → j < n → inChain ks h j ≡ false → Q j ≡ true) → Walk ns Q n (getD hs h 0)
-  walk-all h b O = goes-on ks ns Q h n n (getD hs h 0) (C .next) O (le-refl n) refl (C .heads h b)
+-- through all of a chain
+pub walk-all : (ks hs ns : List ℕ) (n : ℕ) → Chained ks n hs ns → (Q : ℕ → Bool) (h : ℕ) → h < 1024 → ((j : ℕ) → j < n → inChain ks h j ≡ false → Q j ≡ true)
+    → Walk ns Q n (getD hs h 0)
+walk-all ks hs ns n C Q h b O = goes-on ks ns Q h n n (getD hs h 0) (C .next) O (le-refl n) refl (C .heads h b)
 
-  -- through the entries of a chain before entry i
-  pub walk-before : (i : ℕ) → i < n → ((j : ℕ) → j < i → inChain ks (getD ks i 0 % 1024) j ≡ false → Q j ≡ true) → Walk ns Q i (getD ns i 0)
-  walk-before i b O = goes-on ks ns Q (getD ks i 0 % 1024) i i (getD ns i 0) (λ j l. C .next j (omega arith)) O (le-refl i) refl (C .next i b)
+-- through the entries of a chain before entry i
+pub walk-before : (ks ns : List ℕ) (n : ℕ) → Linked ks n ns → (Q : ℕ → Bool) (i : ℕ) → i < n
+    → ((j : ℕ) → j < i → inChain ks (getD ks i 0 % 1024) j ≡ false → Q j ≡ true) → Walk ns Q i (getD ns i 0)
+walk-before ks ns n L Q i b O = goes-on ks ns Q (getD ks i 0 % 1024) i i (getD ns i 0) (λ j l. L j (omega arith)) O (le-refl i) refl (L i b)
+
+-- a link leads to a lower entry
+pub link-low : (ks ns : List ℕ) (n : ℕ) → Linked ks n ns → (i : ℕ) → i < n → getD ns i 0 ≤ i
+link-low ks ns n L i b = omega (arith, L i b, last-le (inChain ks (getD ks i 0 % 1024)) i)
 
 module _ (ns : List ℕ) (Q : ℕ → Bool) (m k : ℕ) (W : Walk ns Q m k) where
   -- the link that the walk goes on at

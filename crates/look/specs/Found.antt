@@ -61,7 +61,7 @@ module _ (s : Store) (T : Table (s .ranges) (s .count)) (n : s .frames ≤ lengt
   unfolding located
   page-located x = go (coveringAt g (rangedOf (used s))) refl
     where
-      in-frame : (k : ℕ) → coveringAt g (rangedOf (used s)) ≡ slots.At k → (f : Frame) → frame k ≡ f → pageOf g (entry (bookOf s x)) ≡ pageIs x (inFrame k f)
+      in-frame : (k : ℕ) → coveringAt g (rangedOf (used s)) ≡ slots.At k → (f : Frame) → frame k ≡ f → pageOf g (entry (bookOf s x)) ≡ pageIs x (inFrame (numberOf (at k .backing)) f)
       in-frame k e Nothing h = page-hole s T n o p x k e h
       in-frame k e (At f) h = page-there s T n o p x k f e h
 
@@ -74,7 +74,7 @@ module _ (s : Store) (T : Table (s .ranges) (s .count)) (n : s .frames ≤ lengt
   unfolding located
   state-located x = go (coveringAt g (rangedOf (used s))) refl
     where
-      in-frame : (k : ℕ) → coveringAt g (rangedOf (used s)) ≡ slots.At k → (f : Frame) → frame k ≡ f → stateIs (seen s (inFrame k f)) ≡ need.stateOf o p (entry (bookOf s x))
+      in-frame : (k : ℕ) → coveringAt g (rangedOf (used s)) ≡ slots.At k → (f : Frame) → frame k ≡ f → stateIs (seen s (inFrame (numberOf (at k .backing)) f)) ≡ need.stateOf o p (entry (bookOf s x))
       in-frame k e Nothing h = look-hole s T n o p x k e h
       in-frame k e (At f) h =
           by-lt 1 (holders (numberOf (at k .backing)) (rangesOf (used s)))
@@ -91,7 +91,7 @@ module _ (s : Store) (T : Table (s .ranges) (s .count)) (n : s .frames ≤ lengt
   frame-located x = go (coveringAt g (rangedOf (used s))) refl
     where
       in-frame : (k : ℕ) → slotAt g (rangesOf (used s)) ≡ some (slotIn g (rangeOf (at k))) → (f : Frame) → frame k ≡ f
-          → frameIn (cellsOf 4096 (s .frames) (s .places) x) (slotAt g (rangesOf (used s))) ≡ frameIs (inFrame k f)
+          → frameIn (cellsOf 4096 (s .frames) (s .places) x) (slotAt g (rangesOf (used s))) ≡ frameIs (inFrame (numberOf (at k .backing)) f)
       in-frame k e Nothing h = rw e (found.absent-there 4096 (s .frames) (s .places) x (numberOf (at k .backing)) (indexIn (at k) g) n h .1)
       in-frame k e (At f) h = rw e (found.located 4096 (s .frames) (s .places) x (numberOf (at k .backing)) (indexIn (at k) g) n f h .frame)
 
@@ -104,29 +104,13 @@ module _ (s : Store) (T : Table (s .ranges) (s .count)) (n : s .frames ≤ lengt
   unfolding located
   located-below l h = go (coveringAt g (rangedOf (used s))) h
     where
-      in-frame : (k : ℕ) (f : Frame) → frame k ≡ f → inFrame k f ≡ Present l → l .frame < s .frames
+      in-frame : (k : ℕ) (f : Frame) → frame k ≡ f → inFrame (numberOf (at k .backing)) f ≡ Present l → l .frame < s .frames
       in-frame k Nothing q e = absurd (let z : _≡_ {A = ℕ} 0 1 = cc in omega arith)
       in-frame k (At f) q e =
-          let z : record { slot = k; frame = f } ≡ l = cc in
+          let z : record { backing = numberOf (at k .backing); frame = f } ≡ l = cc in
           let b = found.located 4096 (s .frames) (s .places) [] (numberOf (at k .backing)) (indexIn (at k) g) n f q .below in
           omega (arith, ap (λ w. w .frame) z)
 
       go : (c : Found) → inFound s g c ≡ Present l → l .frame < s .frames
       go slots.Missing e = absurd (let z : _≡_ {A = ℕ} 0 1 = cc in omega arith)
       go (slots.At k) e = in-frame k (frame k) refl e
-
--- a present page's slot is used
-module _ (s : Store) (g : ℕ) where
-  pub present-slot : (l : Located) → located s g ≡ Present l → coveringAt g (rangedOf (used s)) ≡ slots.At (l .slot)
-  unfolding located
-  present-slot l h = go (coveringAt g (rangedOf (used s))) h
-    where
-      in-frame : (k : ℕ) (f : Frame) → inFrame k f ≡ Present l → slots.At k ≡ slots.At (l .slot)
-      in-frame k Nothing e = absurd (let z : _≡_ {A = ℕ} 0 1 = cc in omega arith)
-      in-frame k (At f) e =
-          let z : record { slot = k; frame = f } ≡ l = cc in
-          ap (λ q. slots.At (q .slot)) z
-
-      go : (c : Found) → inFound s g c ≡ Present l → c ≡ slots.At (l .slot)
-      go slots.Missing e = absurd (let z : _≡_ {A = ℕ} 0 1 = cc in omega arith)
-      go (slots.At k) e = in-frame k (frameAt (numberOf (getD (s .ranges) k zeroRange .backing)) (indexIn (getD (s .ranges) k zeroRange) g) 0 (take (s .frames) (s .places))) e

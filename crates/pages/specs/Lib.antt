@@ -7,6 +7,7 @@ pub mod Inside
 pub mod Next
 pub mod Part
 pub mod Present
+pub mod Private
 pub mod Settling
 pub mod Spot
 pub mod Steps

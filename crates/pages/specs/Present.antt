@@ -45,8 +45,7 @@ pub record Room (s : Store) (x : List ℕ) (o p : ℕ) : Type 0 where
 
 pub record Held (s : Store) (x : List ℕ) (o p : ℕ) (l : Located) : Type 0 where
   pub present : Present s x o p (l .frame)
-  pub slot : l .slot < s .count
-  pub backing : placeAt (s .places) (l .frame) .backing ≡ numberOf (getD (s .ranges) (l .slot) zeroRange .backing)
+  pub backing : placeAt (s .places) (l .frame) .backing ≡ l .backing
 
 module _ (s : Store) (T : Table (s .ranges) (s .count)) (n : s .frames ≤ length (s .places)) (o p : ℕ) (x : List ℕ) where
   pub located-held : (l : Located) → located s (line o p) ≡ found-at.Present l → Held s x o p l
@@ -55,10 +54,10 @@ module _ (s : Store) (T : Table (s .ranges) (s .count)) (n : s .frames ≤ lengt
     where
       in-frame : (k : ℕ) → coveringAt (line o p) (rangedOf (used s)) ≡ slots.At k → (f : Frame)
           → places.frameAt (numberOf (getD (s .ranges) k zeroRange .backing)) (indexIn (getD (s .ranges) k zeroRange) (line o p)) 0 (take (s .frames) (s .places)) ≡ f
-          → inFrame k f ≡ found-at.Present l → Held s x o p l
+          → inFrame (numberOf (getD (s .ranges) k zeroRange .backing)) f ≡ found-at.Present l → Held s x o p l
       in-frame k c Nothing q e = absurd (let z : _≡_ {A = ℕ} 0 1 = cc in omega arith)
       in-frame k c (At f) q e =
-          let z : record { slot = k; frame = f } ≡ l = cc in
+          let z : record { backing = numberOf (getD (s .ranges) k zeroRange .backing); frame = f } ≡ l = cc in
           let C = covered-at (s .ranges) (s .count) T (line o p) k c in
           let F = found.located 4096 (s .frames) (s .places) x (numberOf (getD (s .ranges) k zeroRange .backing)) (indexIn (getD (s .ranges) k zeroRange) (line o p)) n f q in
           rw (← z) (record {
@@ -70,7 +69,6 @@ module _ (s : Store) (T : Table (s .ranges) (s .count)) (n : s .frames ≤ lengt
               };
               page = rw (C .slot) (F .bytes);
             };
-            slot = C .inside;
             backing = F .backing;
           })
 

@@ -6,7 +6,7 @@ use store::Store;
 use table::BackingPages;
 use table::PageRange;
 ghost use mathlib.Core.Path.{_≡_};
-ghost use mathlib.Core.Bool.{true};
+ghost use mathlib.Core.Bool.{true, false};
 ghost use Prim.Native.Nat.{_+_, _-_, _*_, _/_, _%_, _≤_, _<_, suc};
 ghost use lib.ListN.{length, getD, take, drop, replicate};
 ghost use Rattle.ranges.specs.Range.{line, from, upto};
@@ -22,7 +22,7 @@ ghost use Rattle.pages.specs.Inside.{Inside, Stepped, Wrote};
 ghost use Rattle.pages.specs.Settling.{Placed};
 ghost use Rattle.pages.specs.Present.{Present, Room};
 ghost use Rattle.pages.specs.Clear.{Spared, Cleared};
-ghost use Rattle.pages.specs.Spot.{ownSpot, longerSpot, sharedRange, spotIn, spotOf};
+ghost use Rattle.pages.specs.Spot.{ownSpot, longerSpot, spotIn, spotOf};
 
 // The range that is put into the table for a page, and the page's index in its backing.
 pub struct Spot {
@@ -50,14 +50,12 @@ fn own_spot(s: Store, object: u32, page: PageNumber) -> Spot
 }
 
 // "A backing held by two or more ranges is shared."
-fn is_shared(s: Store, r: PageRange) -> bool
+fn is_shared(s: Store, backing: u32) -> bool
     requires { ⌜ s .count ≤ 512 ⌝ }
-    ensures { λ q. ⌜ q ≡ sharedRange s r ⌝ }
+    ensures { λ q. ⌜ q ≡ isShared backing (rangesOf (used s)) ⌝ }
 {
-    let b = r.backing;
-    let n = table::number(b);
     let ranges = s.ranges;
-    1 < table::holder_count(ranges, s.count, n)
+    1 < table::holder_count(ranges, s.count, backing)
 }
 
 // The range that covers the page, or a range of its own where that is shared.
@@ -65,7 +63,9 @@ fn covered_spot(s: Store, object: u32, page: PageNumber, r: PageRange) -> Spot
     requires { ⌜ (s .count ≤ 512) × (Small r) × (from (ranged r) ≤ line object (page .0)) × (line object (page .0) < upto (ranged r)) × (page .0 < 262144) ⌝ }
     ensures { λ q. ⌜ q ≡ spotIn s object (page .0) r ⌝ }
 {
-    if is_shared(s, r) {
+    let b = r.backing;
+    let n = table::number(b);
+    if is_shared(s, n) {
         return own_spot(s, object, page);
     }
     let g = table::line_of(object, page);
@@ -132,11 +132,11 @@ fn spot_of(s: Store, object: u32, page: PageNumber) -> Spot
 {
     let g = table::line_of(object, page);
     let ranges = s.ranges;
-    let n = table::starts_before(ranges, s.count, g + 1);
-    if n == 0 {
+    let b = table::begin_before(ranges, s.count, g + 1);
+    if b.count == 0 {
         return own_spot(s, object, page);
     }
-    let r = ranges[n - 1];
+    let r = b.last;
     spot_in(s, object, page, r)
 }
 
@@ -211,22 +211,20 @@ fn copy_page(s: Store, pool: &mut [u8], object: u32, page: PageNumber, from: usi
     Ready { store: t, frame: f }
 }
 
-// A page that is present, in the range in `slot` and in `frame`, made private.
+// A page that is present, in this backing and frame, made private.
 fn private_page(
     s: Store,
     pool: &mut [u8],
     object: u32,
     page: PageNumber,
-    slot: usize,
+    backing: u32,
     frame: usize,
 ) -> Ready
     requires { ⌜ (Inside s (now pool)) × (page .0 < 262144) × (Room s (now pool) object (page .0)) ⌝ }
-    requires { ⌜ (Present s (now pool) object (page .0) frame) × (slot < s .count) × (placeAt (s .places) frame .backing ≡ numberOf (getD (s .ranges) slot zeroRange .backing)) ⌝ }
+    requires { ⌜ (Present s (now pool) object (page .0) frame) × (placeAt (s .places) frame .backing ≡ backing) ⌝ }
     ensures { λ r. ⌜ Stepped s (now (pool .entry)) object (page .0) (writable object (page .0) (workOf s (now (pool .entry)))) (r .store) (now (pool .exit)) (r .frame) ⌝ }
 {
-    let ranges = s.ranges;
-    let r = ranges[slot];
-    if is_shared(s, r) {
+    if is_shared(s, backing) {
         return copy_page(s, pool, object, page, frame);
     }
     Ready { store: s, frame }
@@ -240,7 +238,7 @@ pub fn make_writable(s: Store, pool: &mut [u8], object: u32, page: PageNumber) -
     let g = table::line_of(object, page);
     match look::locate(s, g) {
         PageAt::Absent => add_page(s, pool, object, page),
-        PageAt::Present(l) => private_page(s, pool, object, page, l.slot, l.frame),
+        PageAt::Present(l) => private_page(s, pool, object, page, l.backing, l.frame),
     }
 }
 
@@ -263,6 +261,31 @@ pub fn write_page(
     let at = r.frame * PageNumber::PAGE_SIZE + PageNumber::place(offset);
     pool::copy_in(pool, at, src, from, m);
     r.store
+}
+
+// The same where the page is present and private: the store stays. Else nothing is written, and the answer is no.
+pub fn overwrite_page(
+    s: Store,
+    pool: &mut [u8],
+    object: u32,
+    offset: usize,
+    src: &[u8],
+    from: usize,
+    m: usize,
+) -> bool
+    requires { ⌜ (Inside s (now pool)) × (offset < 1073741824) × (offset % 4096 + m ≤ 4096) × (from + m ≤ length (now src)) ⌝ }
+    ensures { λ q. ⌜ (q ≡ true → Wrote s (now (pool .entry)) object (offset / 4096) (over (offset % 4096) (take m (drop from (now (src .entry))))) s (now (pool .exit))) × (q ≡ false → now (pool .exit) ≡ now (pool .entry)) ⌝ }
+{
+    let page = PageNumber::from_offset(offset);
+    let g = table::line_of(object, page);
+    match look::private_frame(s, g) {
+        Frame::At(f) => {
+            let at = f * PageNumber::PAGE_SIZE + PageNumber::place(offset);
+            pool::copy_in(pool, at, src, from, m);
+            true
+        }
+        Frame::Nothing => false,
+    }
 }
 
 // n bytes from offset on, all in one page that is present, cleared.

@@ -9,12 +9,12 @@ use lib.ListN.{getD}
 use borrow.Author.Tests.{eq-eqb, ne-eqb}
 use Rattle.places.specs.declared.Place.{Place}
 use Rattle.lists.specs.Test.{pick, by-eq}
+use Rattle.lists.specs.Every.{at-below}
 use Rattle.places.specs.Places.{placeAt}
-use Rattle.chains.specs.Chains.{Chained, inChain}
+use Rattle.chains.specs.Chains.{Chained, Linked, inChain}
 use Rattle.chains.specs.Walk.{Walk, walk-before}
 use Rattle.columns.specs.Columns.{Filled, spot-at, spotted}
 use Rattle.store.specs.Sound.{alone?, apart?}
-use Rattle.store.specs.Loops.{alone-free}
 
 -- the key of frame f at spot x. Free frames, which are compared with none, are spread over all chains.
 abbrev pub keyOf : ℕ → ℕ → ℕ
@@ -23,6 +23,26 @@ keyOf x f = pick (eqb (x / 4294967296) 0) f (x / 4294967296 * 633 + x % 42949672
 -- the keys of the first n frames
 abbrev pub Keys : List ℕ → ℕ → List ℕ → Type 0
 Keys xs n ks = Filled (λ f k. k ≡ keyOf (getD xs f 0) f) n ks
+
+-- the chains of the first n frames, by keys that are made of their spots
+pub record SpotChains (xs : List ℕ) (n : ℕ) (hs ns : List ℕ) : Type 0 where
+  pub keys : List ℕ
+  pub filled : Keys xs n keys
+  pub chained : Chained keys n hs ns
+
+-- the links of those chains, without their heads
+pub record SpotLinks (xs : List ℕ) (n : ℕ) (ns : List ℕ) : Type 0 where
+  pub keys : List ℕ
+  pub filled : Keys xs n keys
+  pub links : Linked keys n ns
+
+pub spot-links : (xs : List ℕ) (n : ℕ) (hs ns : List ℕ) → SpotChains xs n hs ns → SpotLinks xs n ns
+spot-links xs n hs ns C = record { keys = C .keys; filled = C .filled; links = C .chained .next }
+
+-- a free frame stands at no other's place
+alone-free : (ps : List Place) (f : ℕ) → placeAt ps f .backing ≡ 0 → true ≡ alone? ps f
+unfolding alone?
+alone-free ps f e = sym (at-below (λ g. apart? (placeAt ps g) (placeAt ps f)) f (λ g k. rw (eq-eqb (placeAt ps f .backing) 0 e)))
 
 -- frame g does not stand at the place of frame f
 abbrev pub apartFrom : List Place → ℕ → ℕ → Bool
@@ -70,5 +90,5 @@ module _ (xs : List ℕ) (f : ℕ) where
           let r : eqb (getD xs f 0 / 4294967296) 0 ≡ false = ne-eqb (getD xs f 0 / 4294967296) 0 z in
           rw (p, q, e, r)
 
-  pub walk-alone : (n : ℕ) (ks hs ns : List ℕ) → Keys xs n ks → Chained ks n hs ns → f < n → Walk ns (apartFrom (spotted xs) f) f (getD ns f 0)
-  walk-alone n ks hs ns K C l = walk-before ks hs ns n C (apartFrom (spotted xs) f) f l (spot-over n ks K l)
+  pub walk-alone : (n : ℕ) (ns : List ℕ) → SpotLinks xs n ns → f < n → Walk ns (apartFrom (spotted xs) f) f (getD ns f 0)
+  walk-alone n ns L l = walk-before (L .keys) ns n (L .links) (apartFrom (spotted xs) f) f l (spot-over n (L .keys) (L .filled) l)

@@ -1,2 +1,4 @@
 pub mod Alone
 pub mod Windows
+pub mod Seats
+pub mod Bits

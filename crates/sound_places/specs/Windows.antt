@@ -1,8 +1,8 @@
 -- Ranges of one backing are in one chain, so that a frame is looked for in the windows of its chain only.
-use mathlib.Core.Path.{_≡_, refl, sym, _∙_}
+use mathlib.Core.Path.{_≡_, refl, sym, ap, _∙_}
 use mathlib.Core.Bool.{Bool, true, false, not, _&&_, _||_, false≢true}
 use mathlib.Core.List.{List, [], _∷_, _++_, map, map-append}
-use Prim.Native.Nat.{ℕ, zero, suc, _+_, _/_, _%_, _≤_, _<_}
+use Prim.Native.Nat.{ℕ, zero, suc, _+_, _-_, _/_, _%_, _≤_, _<_}
 use native.Mathlib.Nat.{le-refl}
 use native.Mathlib.Omega.{arith}
 use lib.Dec.{eqb, leb, ltb}
@@ -12,13 +12,14 @@ use borrow.Author.Tests.{eq-eqb, ne-eqb}
 use Rattle.table.specs.declared.PageRange.{PageRange}
 use Rattle.places.specs.declared.Place.{Place}
 use Rattle.lists.specs.Test.{by-eq}
-use Rattle.lists.specs.Every.{allBelow, at-below, below-at}
+use Rattle.lists.specs.Every.{allBelow, below-fails}
 use Rattle.ranges.specs.Range.{Range}
 use Rattle.ranges.specs.Table.{named, window}
 use Rattle.table.specs.Table.{rangeOf, rangesOf, zeroRange}
 use Rattle.places.specs.Places.{placeAt}
 use Rattle.chains.specs.Chains.{Chained, inChain}
-use Rattle.chains.specs.Walk.{Walk, walk-all, walk-here}
+use Rattle.chains.specs.Walk.{Walk, link-low, walk-all, walk-end, walk-here, walk-next}
+use Rattle.columns.specs.Columns.{spot-at, spotted}
 use Rattle.columns.specs.Ranges.{Spans, Tags}
 use Rattle.store.specs.Sound.{window?}
 
@@ -30,10 +31,150 @@ windowIn t x b i = eqb b (t % 4294967296) && (leb (x / 4294967296) i && ltb i (x
 abbrev pub outside : List ℕ → List ℕ → ℕ → ℕ → ℕ → Bool
 outside ts xs b i k = not (windowIn (getD ts k 0) (getD xs k 0) b i)
 
+-- the spot x does not lie there
+abbrev pub outsideAt : List ℕ → List ℕ → ℕ → ℕ → Bool
+outsideAt ts xs x = outside ts xs (x / 4294967296) (x % 4294967296)
+
 -- what the walk along the chain of a frame's backing answers; a free frame passes
 abbrev pub walked? : List ℕ → List ℕ → List ℕ → Place → Bool
 walked? ts xs hs p = eqb (p .backing) 0 || not (allBelow (outside ts xs (p .backing) (p .index)) (getD hs (p .backing % 1024) 0))
 
+-- the chains of the ranges, by their tags
+pub record TagChains (ts hs ns : List ℕ) : Type 0 where
+  pub count : ℕ
+  pub few : count ≤ 512
+  pub chained : Chained ts count hs ns
+
+-- the same, and a link to one of those ranges, or 0
+pub record Hinted (ts hs ns : List ℕ) (k : ℕ) : Type 0 where
+  pub count : ℕ
+  pub few : count ≤ 512
+  pub chained : Chained ts count hs ns
+  pub low : k ≤ count
+
+-- each link of the entries below k leads to a lower entry
+pub record Falls (ns : List ℕ) (k : ℕ) : Type 0 where
+  pub down : (i : ℕ) → i < k → getD ns i 0 ≤ i
+
+-- r is the link to a range with the spot x in its window; where it is 0, a walk that is at link k finds none
+pub record Found (ts xs ns : List ℕ) (x k r : ℕ) : Type 0 where
+  pub low : r ≤ k
+  pub hit : 0 < r → windowIn (getD ts (r - 1) 0) (getD xs (r - 1) 0) (x / 4294967296) (x % 4294967296) ≡ true
+  pub none : r ≡ 0 → (m : ℕ) → Walk ns (outsideAt ts xs x) m k → allBelow (outsideAt ts xs x) m ≡ true
+
+-- r is the link to a range with the spot x in its window, or 0 where the walk along the chain of its backing finds none
+pub record Met (ts xs hs ns : List ℕ) (x r : ℕ) : Type 0 where
+  pub hinted : Hinted ts hs ns r
+  pub none : r ≡ 0 → allBelow (outsideAt ts xs x) (getD hs (x / 4294967296 % 1024) 0) ≡ true
+  pub some : 0 < r → allBelow (outsideAt ts xs x) (getD hs (x / 4294967296 % 1024) 0) ≡ false
+
+-- ---- a walk from link k on, which is at link j
+pub record Going (ts xs ns : List ℕ) (x k j : ℕ) : Type 0 where
+  pub low : j ≤ k
+  pub walk : (m : ℕ) → Walk ns (outsideAt ts xs x) m k → Walk ns (outsideAt ts xs x) m j
+
+module _ (ts xs ns : List ℕ) (x k : ℕ) where
+  pub going-start : Going ts xs ns x k k
+  going-start = record { low = le-refl k; walk = λ m W. W }
+
+  module _ (j : ℕ) (G : Going ts xs ns x k j) where
+    pub going-less : Falls ns k → 0 < j → getD ns (j - 1) 0 < j
+    going-less F h = let l = G .low in omega (arith, F .down (j - 1) (omega arith))
+
+    pub going-next : Falls ns k → 0 < j → windowIn (getD ts (j - 1) 0) (getD xs (j - 1) 0) (x / 4294967296) (x % 4294967296) ≡ false
+        → Going ts xs ns x k (getD ns (j - 1) 0)
+    going-next F h e =
+        record {
+          low = let l = G .low in omega (arith, going-less F h);
+          walk = λ m W. walk-next ns (outsideAt ts xs x) m j (G .walk m W) h (ap not e);
+        }
+
+    pub going-hit : 0 < j → windowIn (getD ts (j - 1) 0) (getD xs (j - 1) 0) (x / 4294967296) (x % 4294967296) ≡ true → Found ts xs ns x k j
+    going-hit h e = record { low = G .low; hit = λ _. e; none = λ z. absurd (omega arith) }
+
+    pub going-end : j ≤ 0 → Found ts xs ns x k 0
+    going-end h =
+        record {
+          low = omega arith;
+          hit = λ z. absurd (omega arith);
+          none = λ _ m W. sym (walk-end ns (outsideAt ts xs x) m j (G .walk m W) h);
+        }
+
+-- ---- the walk along the chain of a backing
+module _ (ts xs hs ns : List ℕ) (n : ℕ) (C : Chained ts n hs ns) where
+  -- a range outside of the chain has another backing
+  walk-windows : (b i : ℕ) → Walk ns (outside ts xs b i) n (getD hs (b % 1024) 0)
+  walk-windows b i = walk-all ts hs ns n C (outside ts xs b i) (b % 1024) (omega arith) other
+    where
+      other : (j : ℕ) → j < n → inChain ts (b % 1024) j ≡ false → outside ts xs b i j ≡ true
+      other j h o =
+          by-eq b (getD ts j 0 % 4294967296)
+          (λ e. absurd (false≢true (sym o ∙ eq-eqb (getD ts j 0 % 1024) (b % 1024) (omega arith))))
+          (λ e. rw (ne-eqb b (getD ts j 0 % 4294967296) e))
+
+  falls : (k : ℕ) → k ≤ n → Falls ns k
+  falls k h = record { down = λ i l. link-low ts ns n (C .next) i (omega arith) }
+
+  -- what a range in whose window x lies says of the chain of its backing
+  met-by : (x r : ℕ) → 0 < r → r ≤ n → windowIn (getD ts (r - 1) 0) (getD xs (r - 1) 0) (x / 4294967296) (x % 4294967296) ≡ true
+      → allBelow (outsideAt ts xs x) (getD hs (x / 4294967296 % 1024) 0) ≡ false
+  met-by x r h l e =
+      walk-windows (x / 4294967296) (x % 4294967296) .same ∙ sym (below-fails (outsideAt ts xs x) n (r - 1) (omega arith) (ap not e))
+
+module _ (ts xs hs ns : List ℕ) (x hint : ℕ) (H : Hinted ts hs ns hint) where
+  -- the walk may begin at the hint, and at the head of the chain
+  pub hint-falls : (hint ≤ 512) × Falls ns hint
+  hint-falls = let l = H .low in let f = H .few in (omega arith, falls ts xs hs ns (H .count) (H .chained) hint l)
+
+  head-low : getD hs (x / 4294967296 % 1024) 0 ≤ H .count
+  head-low = walk-windows ts xs hs ns (H .count) (H .chained) (x / 4294967296) (x % 4294967296) .low
+
+  pub head-falls : (getD hs (x / 4294967296 % 1024) 0 ≤ 512) × Falls ns (getD hs (x / 4294967296 % 1024) 0)
+  head-falls = let f = H .few in (omega (arith, head-low), falls ts xs hs ns (H .count) (H .chained) (getD hs (x / 4294967296 % 1024) 0) head-low)
+
+  met : (r : ℕ) → r ≤ H .count → (r ≡ 0 → allBelow (outsideAt ts xs x) (getD hs (x / 4294967296 % 1024) 0) ≡ true)
+      → (0 < r → windowIn (getD ts (r - 1) 0) (getD xs (r - 1) 0) (x / 4294967296) (x % 4294967296) ≡ true) → Met ts xs hs ns x r
+  met r l z e =
+      record {
+        hinted = record { count = H .count; few = H .few; chained = H .chained; low = l };
+        none = z;
+        some = λ h. met-by ts xs hs ns (H .count) (H .chained) x r h l (e h);
+      }
+
+  pub met-near : (r : ℕ) → Found ts xs ns x hint r → 0 < r → Met ts xs hs ns x r
+  met-near r F h = let l = H .low in let b = F .low in met r (omega arith) (λ z. absurd (omega arith)) (F .hit)
+
+  pub met-head : (r : ℕ) → Found ts xs ns x (getD hs (x / 4294967296 % 1024) 0) r → Met ts xs hs ns x r
+  met-head r F =
+      let b = F .low in
+      let W = walk-windows ts xs hs ns (H .count) (H .chained) (x / 4294967296) (x % 4294967296) in
+      met r (omega (arith, head-low))
+      (λ z. F .none z (getD hs (x / 4294967296 % 1024) 0) (walk-here ns (outsideAt ts xs x) (H .count) (getD hs (x / 4294967296 % 1024) 0) W)) (F .hit)
+
+-- ---- all frames
+pub hinted-none : (ts hs ns : List ℕ) → TagChains ts hs ns → Hinted ts hs ns 0
+hinted-none ts hs ns T = record { count = T .count; few = T .few; chained = T .chained; low = omega arith }
+
+module _ (ts xs hs ss : List ℕ) (f : ℕ) where
+  pub walked-free : getD ss f 0 / 4294967296 ≤ 0 → walked? ts xs hs (placeAt (spotted ss) f) ≡ true
+  walked-free h =
+      let e : getD ss f 0 / 4294967296 ≡ 0 = omega arith in
+      ap (walked? ts xs hs) (spot-at ss f) ∙ rw (eq-eqb (getD ss f 0 / 4294967296) 0 e)
+
+  module _ (ns : List ℕ) (r : ℕ) (M : Met ts xs hs ns (getD ss f 0) r) (u : 0 < getD ss f 0 / 4294967296) where
+    pub walked-met : (r ≡ 0 → ⊥) → walked? ts xs hs (placeAt (spotted ss) f) ≡ true
+    walked-met h =
+        let z : eqb (getD ss f 0 / 4294967296) 0 ≡ false = ne-eqb (getD ss f 0 / 4294967296) 0 (λ e. omega arith) in
+        let q = M .some (omega arith) in
+        ap (walked? ts xs hs) (spot-at ss f) ∙ rw (z, q)
+
+    pub walked-none : r ≡ 0 → walked? ts xs hs (placeAt (spotted ss) f) ≡ false
+    walked-none h =
+        let z : eqb (getD ss f 0 / 4294967296) 0 ≡ false = ne-eqb (getD ss f 0 / 4294967296) 0 (λ e. omega arith) in
+        let q = M .none h in
+        ap (walked? ts xs hs) (spot-at ss f) ∙ rw (z, q)
+
+-- ---- the columns tell the windows of the table
 named-snoc : (b i : ℕ) (rs : List Range) (r : Range) → named b i (rs ++ (r ∷ [])) ≡ (window b i r || named b i rs)
 unfolding named
 named-snoc b i [] r = refl
@@ -63,28 +204,10 @@ module _ (l : List PageRange) (ts xs : List ℕ) (n : ℕ) (m : n ≤ length l) 
       either true a = refl
       either false a = refl
 
-  module _ (hs ns : List ℕ) (C : Chained ts n hs ns) (p : Place) where
-    -- a range outside of the chain has another backing
-    walk-windows : Walk ns (outside ts xs (p .backing) (p .index)) n (getD hs (p .backing % 1024) 0)
-    walk-windows = walk-all ts hs ns n C (outside ts xs (p .backing) (p .index)) (p .backing % 1024) (omega arith) other
-      where
-        other : (j : ℕ) → j < n → inChain ts (p .backing % 1024) j ≡ false → outside ts xs (p .backing) (p .index) j ≡ true
-        other j h o =
-            by-eq (p .backing) (getD ts j 0 % 4294967296)
-            (λ e. absurd (false≢true (sym o ∙ eq-eqb (getD ts j 0 % 1024) (p .backing % 1024) (omega arith))))
-            (λ e. rw (ne-eqb (p .backing) (getD ts j 0 % 4294967296) e))
-
-    pub walk-window : n ≤ 512
-        → (getD hs (p .backing % 1024) 0 ≤ 512) × Walk ns (outside ts xs (p .backing) (p .index)) (getD hs (p .backing % 1024) 0) (getD hs (p .backing % 1024) 0)
-    walk-window h =
-        (omega (arith, walk-windows .low), walk-here ns (outside ts xs (p .backing) (p .index)) n (getD hs (p .backing % 1024) 0) walk-windows)
-
+  module _ (hs ns : List ℕ) (C : Chained ts n hs ns) where
     -- what the walk answers is what all windows answer
-    pub window-walked : walked? ts xs hs p ≡ window? (rangesOf (take n l)) p
-    window-walked = rw (windows-told (p .backing) (p .index) n (le-refl n), walk-windows .same)
+    window-walked : (p : Place) → walked? ts xs hs p ≡ window? (rangesOf (take n l)) p
+    window-walked p = rw (windows-told (p .backing) (p .index) n (le-refl n), walk-windows ts xs hs ns n C (p .backing) (p .index) .same)
 
-  pub windows-walked : (hs ns : List ℕ) → Chained ts n hs ns → (ps : List Place) (f : ℕ) → allBelow (λ g. walked? ts xs hs (placeAt ps g)) f ≡ true
-      → true ≡ allBelow (λ g. window? (rangesOf (take n l)) (placeAt ps g)) f
-  windows-walked hs ns C ps f h =
-      sym (at-below (λ g. window? (rangesOf (take n l)) (placeAt ps g)) f
-      (λ g k. sym (window-walked hs ns C (placeAt ps g)) ∙ below-at (λ j. walked? ts xs hs (placeAt ps j)) f h g k))
+    pub walks-windows : (ps : List Place) (k : ℕ) → allBelow (λ f. walked? ts xs hs (placeAt ps f)) k ≡ allBelow (λ f. window? (rangesOf (take n l)) (placeAt ps f)) k
+    walks-windows ps k = λ j. allBelow (λ f. window-walked (placeAt ps f) j) k

@@ -1,8 +1,8 @@
 -- Ranges of one backing are in one chain, so that a range is compared with those of its chain only, and with those before it only.
-use mathlib.Core.Path.{_≡_, sym, ap, _∙_}
+use mathlib.Core.Path.{_≡_, refl, sym, ap, _∙_}
 use mathlib.Core.Bool.{Bool, true, false, not, _||_, false≢true}
 use mathlib.Core.List.{List}
-use Prim.Native.Nat.{ℕ, zero, suc, _/_, _%_, _≤_, _<_}
+use Prim.Native.Nat.{ℕ, zero, suc, _+_, _/_, _%_, _≤_, _<_}
 use native.Mathlib.Numerals.{add-one}
 use native.Mathlib.Omega.{arith}
 use lib.Dec.{eqb, ltb}
@@ -14,7 +14,7 @@ use Rattle.table.specs.declared.BackingPages.the-variants.{Nothing, Single, Man
 use Rattle.lists.specs.Test.{by-eq, by-lt, by-test}
 use Rattle.lists.specs.Every.{allBelow, at-below, below-at, every, every-fails, every-next, every-none}
 use Rattle.table.specs.Table.{zeroRange}
-use Rattle.chains.specs.Chains.{Chained}
+use Rattle.chains.specs.Chains.{Linked}
 use Rattle.chains.specs.Walk.{Walk, walk-before}
 use Rattle.columns.specs.Ranges.{Tag, Tags}
 use Rattle.store.specs.Sound.{alike}
@@ -72,7 +72,7 @@ module _ {A : Type 0} (P : A → Bool) (l : List A) (z : A) where
   every-from (suc n) m h =
       rw (← add-one n) (every-next P l n z m (every-from n (omega arith) (λ k b. h k (omega arith))) (h n (omega arith)))
 
-  every-at : (n : ℕ) → n ≤ length l → every P (take n l) ≡ true → (k : ℕ) → k < n → P (getD l k z) ≡ true
+  pub every-at : (n : ℕ) → n ≤ length l → every P (take n l) ≡ true → (k : ℕ) → k < n → P (getD l k z) ≡ true
   every-at n m h k b = by-test (P (getD l k z)) (λ e. e) (λ e. absurd (false≢true (every-fails P l n k z b m e ∙ h)))
 
 module _ (l : List PageRange) (ts : List ℕ) (n : ℕ) (m : n ≤ length l) (T : Tags l n ts) where
@@ -87,32 +87,35 @@ module _ (l : List PageRange) (ts : List ℕ) (n : ℕ) (m : n ≤ length l) (T 
   told : (i j : ℕ) → i < n → j < n → alikeTo ts i j ≡ alike (back j) (back i)
   told i j p q = alike-told (back j) (back i) (getD ts j 0) (getD ts i 0) (T .each j q) (T .each i p)
 
-  pub agree-all : allBelow (λ i. allBelow (alikeTo ts i) i) n ≡ true → true ≡ agree?
-  agree-all h =
-      sym (every-from (λ a. every (λ b. alike (a .backing) (b .backing)) (take n l)) l zeroRange n m
-      (λ i p. every-from (λ b. alike (back i) (b .backing)) l zeroRange n m (λ j q. pair i j p q)))
+  pub agree-told : allBelow (λ i. allBelow (alikeTo ts i) i) n ≡ agree?
+  agree-told =
+      by-test (allBelow (λ i. allBelow (alikeTo ts i) i) n)
+      (λ h. h ∙ sym (all h))
+      (λ h. h ∙ sym (by-test agree? (λ e. absurd (false≢true (sym h ∙ at-below (λ i. allBelow (alikeTo ts i) i) n (λ i p. at-below (alikeTo ts i) i (λ j q. one e i j p q))))) (λ e. e)))
     where
-      lower : (i j : ℕ) → i < n → j < i → alike (back j) (back i) ≡ true
-      lower i j p q = sym (told i j p (omega arith)) ∙ below-at (alikeTo ts i) i (below-at (λ k. allBelow (alikeTo ts k) k) n h i p) j q
+      all : allBelow (λ i. allBelow (alikeTo ts i) i) n ≡ true → agree? ≡ true
+      all h =
+          every-from (λ a. every (λ b. alike (a .backing) (b .backing)) (take n l)) l zeroRange n m
+          (λ i p. every-from (λ b. alike (back i) (b .backing)) l zeroRange n m (λ j q. pair i j p q))
+        where
+          lower : (i j : ℕ) → i < n → j < i → alike (back j) (back i) ≡ true
+          lower i j p q = sym (told i j p (omega arith)) ∙ below-at (alikeTo ts i) i (below-at (λ k. allBelow (alikeTo ts k) k) n h i p) j q
 
-      pair : (i j : ℕ) → i < n → j < n → alike (back i) (back j) ≡ true
-      pair i j p q =
-          by-lt i j (λ b. lower j i q b)
-          (λ b. by-eq i j (λ e. rw e (alike-self (back j))) (λ e. alike-sym (back j) (back i) (lower i j p (omega arith))))
+          pair : (i j : ℕ) → i < n → j < n → alike (back i) (back j) ≡ true
+          pair i j p q =
+              by-lt i j (λ b. lower j i q b)
+              (λ b. by-eq i j (λ e. rw e (alike-self (back j))) (λ e. alike-sym (back j) (back i) (lower i j p (omega arith))))
 
-  pub agree-none : (i : ℕ) → i < n → allBelow (alikeTo ts i) i ≡ false → false ≡ agree?
-  agree-none i p h = by-test agree? (λ e. absurd (false≢true (sym h ∙ at-below (alikeTo ts i) i (λ j q. all e j q)))) (λ e. sym e)
-    where
-      all : agree? ≡ true → (j : ℕ) → j < i → alikeTo ts i j ≡ true
-      all e j q =
+      one : agree? ≡ true → (i j : ℕ) → i < n → j < i → alikeTo ts i j ≡ true
+      one e i j p q =
           let k : j < n = omega arith in
           let r : every (λ b. alike (back j) (b .backing)) (take n l) ≡ true =
           every-at (λ a. every (λ b. alike (a .backing) (b .backing)) (take n l)) l zeroRange n m e j k in
           told i j p k ∙ every-at (λ b. alike (back j) (b .backing)) l zeroRange n m r i p
 
 -- a range outside of the chain of range i has another backing
-pub walk-agree : (ts hs ns : List ℕ) (n i : ℕ) → Chained ts n hs ns → i < n → Walk ns (alikeTo ts i) i (getD ns i 0)
-walk-agree ts hs ns n i C l = walk-before ts hs ns n C (alikeTo ts i) i l (λ j b o. other (getD ts j 0) (getD ts i 0) o)
+pub walk-agree : (ts ns : List ℕ) (n i : ℕ) → Linked ts n ns → i < n → Walk ns (alikeTo ts i) i (getD ns i 0)
+walk-agree ts ns n i L l = walk-before ts ns n L (alikeTo ts i) i l (λ j b o. other (getD ts j 0) (getD ts i 0) o)
   where
     other : (x y : ℕ) → eqb (x % 1024) (y % 1024) ≡ false → alikeIn x y ≡ true
     other x y o =
@@ -123,3 +126,16 @@ walk-agree ts hs ns n i C l = walk-before ts hs ns n C (alikeTo ts i) i l (λ j 
         (λ q. by-eq (x / 4294967296) (y / 4294967296)
         (λ e. one-kind x y (omega arith) e)
         (λ e. two-kinds x y (omega arith) (omega arith) e ∙ ap not d)))
+
+-- a range of the very backing of a range that agrees with all before it agrees with those too
+pub same-agrees : (ts : List ℕ) (i k : ℕ) → k < i → allBelow (λ j. allBelow (alikeTo ts j) j) i ≡ true → getD ts k 0 ≡ getD ts i 0
+    → allBelow (alikeTo ts i) (k + 1) ≡ true
+same-agrees ts i k l h e =
+    at-below (alikeTo ts i) (k + 1)
+    (λ j b. by-eq j k
+    (λ q. rw (q, e) (self (getD ts i 0)))
+    (λ q. rw (← e) (below-at (alikeTo ts k) k (below-at (λ j. allBelow (alikeTo ts j) j) i h k l) j (omega arith))))
+  where
+    self : (x : ℕ) → alikeIn x x ≡ true
+    self x =
+        by-eq (x / 4294967296) 0 (λ p. none-left x x p) (λ p. one-kind x x (omega arith) refl)

@@ -9,7 +9,6 @@ pub mod Kinds
 pub mod Live
 pub mod Located
 pub mod Looked
-pub mod Loops
 pub mod Members
 pub mod Pool
 pub mod Ranges

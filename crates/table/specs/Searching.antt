@@ -5,16 +5,18 @@ use Prim.Native.Nat.{ℕ, zero, suc, _+_, _-_, _≤_, _<_}
 use native.Mathlib.Omega.{arith}
 use lib.ListN.{length, getD, take, length-map, List·getD-map}
 use lib.Seq.{length-take-le, getD-take}
-use Rattle.lists.specs.Test.{by-lt}
+use lib.Dec.{eqb, ltb}
+use Rattle.lists.specs.Test.{pick, by-eq, by-lt}
 use Rattle.ranges.specs.Range.{Ranged, from, upto}
 use Rattle.ranges.specs.Search.{startsBefore, endsBy, starts-few, starts-is, starts-in, rising-next, rising-full, ends-none, ends-cut, ends-whole}
 use Rattle.table.specs.declared.PageRange.{PageRange}
 use Rattle.table.specs.declared.BackingPages.{BackingPages}
+use Rattle.table.specs.declared.Begun.{Begun}
 use Rattle.table.specs.Table.{Table, Small, ranged, rangedOf, zeroRange, coveringAt, reaching}
 use Rattle.table.specs.declared.Found.{Found}
 use Rattle.table.specs.declared.Found.the-variants.{At, Missing}
 use native.Mathlib.Numerals.{add-one}
-use borrow.Author.Tests.{lt-ltb, le-ltb}
+use borrow.Author.Tests.{eq-eqb, ne-eqb, lt-ltb, le-ltb}
 
 module _ (R : List PageRange) (count : ℕ) (T : Table R count) where
   abbrev used : List (Ranged BackingPages)
@@ -93,3 +95,42 @@ module _ (R : List PageRange) (count : ℕ) (T : Table R count) where
       let m : n ≡ suc (n - 1) = omega arith in
       let u : upto (getD used (n - 1) (ranged zeroRange)) ≤ g = omega (arith, ap (λ r. upto r) (used-at (n - 1) (omega (arith, starts-count (g + 1))))) in
       sym (reached g n e ∙ ap (λ k. reaching g used k) m ∙ rw (le-ltb g (upto (getD used (n - 1) (ranged zeroRange))) u))
+
+-- ---- what a search finds: how many ranges begin before a page, and the last of them
+
+pub record BegunIs (l : List PageRange) (n g : ℕ) (b : Begun) : Type 0 where
+  pub count : b .count ≡ startsBefore g (rangedOf (take n l))
+  pub last : 0 < b .count → b .last ≡ getD l (b .count - 1) zeroRange
+
+-- the last one, if it reaches past page g
+abbrev pub reachOf : Begun → ℕ → Found
+reachOf b g = pick (eqb (b .count) 0) Missing (pick (ltb g (upto (ranged (b .last)))) (At (b .count - 1)) Missing)
+
+module _ (l : List PageRange) (n g : ℕ) (T : Table l n) (b : Begun) (B : BegunIs l n (g + 1) b) where
+  pub begun-small : 0 < b .count → Small (b .last)
+  begun-small h = rw (B .last h) (T .small (b .count - 1) (omega (arith, B .count, starts-count l n T (g + 1))))
+
+  pub reach-told : reachOf b g ≡ coveringAt g (rangedOf (take n l))
+  reach-told =
+      by-eq (b .count) 0
+      (λ z. rw (eq-eqb (b .count) 0 z) (none-before l n T g (b .count) (B .count) z))
+      (λ z.
+      let q = B .last (omega arith) in
+      by-lt g (upto (ranged (b .last)))
+      (λ h. rw (ne-eqb (b .count) 0 z, lt-ltb g (upto (ranged (b .last))) h) (covers-it l n T g (b .count) (B .count) z (rw q at h)))
+      (λ h. rw (ne-eqb (b .count) 0 z, le-ltb g (upto (ranged (b .last))) h) (ends-short l n T g (b .count) (B .count) z (rw q at h))))
+
+  -- the range that covers the page is the last one
+  pub reach-last : (k : ℕ) → reachOf b g ≡ At k → b .last ≡ getD l k zeroRange
+  reach-last k e =
+      by-eq (b .count) 0
+      (λ z. let j : Missing ≡ At k = rw (eq-eqb (b .count) 0 z) at e in absurd (let w : _≡_ {A = ℕ} 0 1 = cc in omega arith))
+      (λ z.
+      by-lt g (upto (ranged (b .last)))
+      (λ h.
+      let j : At (b .count - 1) ≡ At k = rw (ne-eqb (b .count) 0 z, lt-ltb g (upto (ranged (b .last))) h) at e in
+      let w : b .count - 1 ≡ k = cc in
+      B .last (omega arith) ∙ ap (λ (i : ℕ). getD l i zeroRange) w)
+      (λ h.
+      let j : Missing ≡ At k = rw (ne-eqb (b .count) 0 z, le-ltb g (upto (ranged (b .last))) h) at e in
+      absurd (let w : _≡_ {A = ℕ} 0 1 = cc in omega arith)))

@@ -6,6 +6,7 @@ ghost use lib.ListN.{take};
 ghost use Rattle.ranges.specs.Range.{line, from, upto, skip, front, back, covers, splitAt};
 ghost use Rattle.ranges.specs.Search.{startsBefore, endsBy};
 ghost use Rattle.ranges.specs.Table.{holders, fresh, window, named};
+ghost use Rattle.table.specs.Searching.{BegunIs, reachOf};
 ghost use Rattle.table.specs.Table.{numberOf, ranged, rangeOf, rangesOf, rangedOf, zeroRange, Small, Table, partsOf, Cut, coveringAt};
 
 // What keeps the pages of a range, with the backing's number. "Between two calls `Nothing` stands only in unused slots."
@@ -196,10 +197,16 @@ pub enum Found {
     Missing,
 }
 
-// How many ranges of the table begin before page g of the line, by halving.
-pub fn starts_before(ranges: [PageRange; 512], count: usize, g: usize) -> usize
+// The ranges of a table that begin before a page: how many, and the last of them.
+pub struct Begun {
+    pub count: usize,
+    pub last: PageRange,
+}
+
+// Those that begin before page g of the line, by halving.
+pub fn begin_before(ranges: [PageRange; 512], count: usize, g: usize) -> Begun
     requires { ⌜ Table ranges count ⌝ }
-    ensures { λ r. ⌜ r ≡ startsBefore g (rangedOf (take count ranges)) ⌝ }
+    ensures { λ b. ⌜ BegunIs ranges count g b ⌝ }
 {
     let mut lo: usize = 0;
     let mut hi: usize = count;
@@ -213,7 +220,23 @@ pub fn starts_before(ranges: [PageRange; 512], count: usize, g: usize) -> usize
         }
         hi = mid;
     }
-    lo
+    if lo == 0 {
+        return Begun {
+            count: 0,
+            last: zero_range(),
+        };
+    }
+    let last = ranges[lo - 1];
+    Begun { count: lo, last }
+}
+
+// How many ranges of the table begin before page g of the line.
+pub fn starts_before(ranges: [PageRange; 512], count: usize, g: usize) -> usize
+    requires { ⌜ Table ranges count ⌝ }
+    ensures { λ r. ⌜ r ≡ startsBefore g (rangedOf (take count ranges)) ⌝ }
+{
+    let b = begin_before(ranges, count, g);
+    b.count
 }
 
 // How many of the table's first ranges end by page a of the line.
@@ -221,17 +244,32 @@ pub fn ends_by(ranges: [PageRange; 512], count: usize, a: usize) -> usize
     requires { ⌜ Table ranges count ⌝ }
     ensures { λ r. ⌜ r ≡ endsBy a (rangedOf (take count ranges)) ⌝ }
 {
-    let n = starts_before(ranges, count, a);
-    if n == 0 {
+    let b = begin_before(ranges, count, a);
+    if b.count == 0 {
         return 0;
     }
-    let i = n - 1;
-    let r = ranges[i];
+    let r = b.last;
     let e = r.end();
     if a < e {
-        return i;
+        return b.count - 1;
     }
-    n
+    b.count
+}
+
+// Of the ranges that begin by page g of the line, the place of the one that covers it.
+pub fn reaching(b: Begun, g: usize) -> Found
+    requires { ⌜ (0 < b .count → Small (b .last)) ⌝ }
+    ensures { λ r. ⌜ r ≡ reachOf b g ⌝ }
+{
+    if b.count == 0 {
+        return Found::Missing;
+    }
+    let r = b.last;
+    let e = r.end();
+    if g < e {
+        return Found::At(b.count - 1);
+    }
+    Found::Missing
 }
 
 // The place of the range that covers page g of the line.
@@ -239,17 +277,8 @@ pub fn covering(ranges: [PageRange; 512], count: usize, g: usize) -> Found
     requires { ⌜ (Table ranges count) × (g < 1000000000000000000) ⌝ }
     ensures { λ r. ⌜ r ≡ coveringAt g (rangedOf (take count ranges)) ⌝ }
 {
-    let n = starts_before(ranges, count, g + 1);
-    if n == 0 {
-        return Found::Missing;
-    }
-    let i = n - 1;
-    let r = ranges[i];
-    let e = r.end();
-    if g < e {
-        return Found::At(i);
-    }
-    Found::Missing
+    let b = begin_before(ranges, count, g + 1);
+    reaching(b, g)
 }
 
 // How many ranges of the table hold a backing.

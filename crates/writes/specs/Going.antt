@@ -5,7 +5,7 @@ use Prim.Native.Nat.{ℕ, suc, _+_, _-_, _*_, _/_, _%_, _≤_, _<_}
 use native.Mathlib.Nat.{add-zero, sub-zero, le-refl}
 use native.Mathlib.Omega.{arith}
 use lib.ListN.{length, take, drop, length-drop}
-use lib.Seq.{drop-drop}
+use lib.Seq.{drop-drop, take-all}
 use Rattle.pages.specs.Present as pagesPresent
 use Rattle.store.specs.declared.Store.{Store}
 use Rattle.ranges.specs.Range.{line}
@@ -168,3 +168,37 @@ going-end s x o off d t y G = record {
   top = omega (arith, G .top);
   changed = G .changed;
 }
+
+-- ---- what is left, as a write of its own: where the store is as it was
+module _ (s : Store) (x : List ℕ) (o off : ℕ) (d : List ℕ) (done : ℕ) (y : List ℕ) (G : Going s x o off d done s y) (h : done < length d) where
+  abbrev pub rest : List ℕ
+  rest = take (length d - done) (drop done d)
+
+  all-left : rest ≡ drop done d
+  all-left = take-all {A = ℕ} (length d - done) (drop done d) (omega (arith, length-drop done d))
+
+  pub rest-room : off + length d ≤ 1073741824 → Room s y o (off + done) (length rest)
+  rest-room ends =
+      rw all-left
+      (record {
+        inside = G .inside;
+        ends = omega (arith, length-drop done d);
+        spare = rw (length-drop done d) (G .spare);
+        slots = rw (length-drop done d) (G .slots);
+      })
+
+  pub rest-written : (t : Store) (z : List ℕ) → Written s y o (off + done) rest t z → Written s x o off d t z
+  unfolding writing workOf
+  rest-written t z U = joined (rw all-left at U)
+    where
+      joined : Written s y o (off + done) (drop done d) t z → Written s x o off d t z
+      joined W = record {
+        work = W .work ∙ (rw (length-drop done d) (G .rest));
+        inside = W .inside;
+        frames = W .frames;
+        live = W .live;
+        upto = W .upto;
+        low = omega (arith, W .low, G .low, G .edge h);
+        top = let e = rw (length-drop done d) at (W .top) in omega (arith, e, G .top, G .edge h);
+        changed = λ a x₀ l C. W .changed a x₀ (omega (arith, l, G .low, G .edge h)) (rw (← G .edge h) (G .changed a x₀ l C));
+      }

@@ -3,6 +3,7 @@ use page::PageNumber;
 use store::Store;
 ghost use lib.ListN.{length};
 ghost use Rattle.writes.specs.Written.{Room, Written};
+ghost use Rattle.writes.specs.Going.{Going};
 
 // The bytes of src written from `offset` on: "Calls work in page order".
 pub fn write_pages(s: Store, pool: &mut [u8], object: u32, offset: usize, src: &[u8]) -> Store
@@ -19,4 +20,23 @@ pub fn write_pages(s: Store, pool: &mut [u8], object: u32, offset: usize, src: &
         done += m;
     }
     t
+}
+
+// The same as far as the pages are present and private, so that the store stays: how many bytes are written.
+pub fn overwrite_pages(s: Store, pool: &mut [u8], object: u32, offset: usize, src: &[u8]) -> usize
+    requires { ⌜ Room s (now pool) object offset (length (now src)) ⌝ }
+    ensures { λ r. ⌜ Going s (now (pool .entry)) object offset (now (src .entry)) r s (now (pool .exit)) ⌝ }
+{
+    let n = src.len();
+    let mut done: usize = 0;
+    while done < n {
+        let at = offset + done;
+        let m = PageNumber::in_page(at, n - done);
+        if pages::overwrite_page(s, pool, object, at, src, done, m) {
+            done += m;
+        } else {
+            return done;
+        }
+    }
+    done
 }

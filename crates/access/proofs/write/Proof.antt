@@ -1,9 +1,13 @@
+-- `access::write` meets its contract: the bytes written where they are and those left make the whole write.
 use mathlib.Core.Path.{_≡_, refl, sym, _∙_}
+use Prim.Native.Nat.{_<_}
+use lib.ListN.{length}
 use Rattle.refuse.specs.Refuse.{refusal}
 use Rattle.book.specs.Book.{write, done}
 use Rattle.calls.specs.With.{with-refused}
+use Rattle.writes.specs.Going.{going-end, rest-room, rest-written}
 use Rattle.access.specs.Enters.{write-enters}
-use Rattle.access.specs.Finish.{write-done, handed}
+use Rattle.access.specs.Finish.{write-done, write-stays, handed}
 use native.Mathlib.Omega.{arith}
 use borrow.Author.Needs.{needs}
 use Rattle.access.proofs.write.Statement.{statement}
@@ -17,15 +21,12 @@ returns c =
     let a = c .before .before .before .before .args in
     with-refused (write (a .object) (a .offset) (a .src .now)) (a .s) (a .pool .now) done (c .before .write .result) (c .if1 .taken) (c .before .write .ensures .0 (a .pool .now) (a .src .now) refl refl) (λ j. refl)
 
-write-pages-requires : tie.Need-write-pages-requires
-write-pages-requires c κs =
+overwrite-pages-requires : tie.Need-overwrite-pages-requires
+overwrite-pages-requires c κs =
     let a = c .before .before .before .before .before .args in
     let k : c .before .before .write .result ≡ 0 = omega (arith, c .before .if1 .left) in
     let r : 0 ≡ refusal (a .s) (a .pool .now) (write (a .object) (a .offset) (a .src .now)) = sym k ∙ c .before .before .write .ensures .0 (a .pool .now) (a .src .now) refl refl in
     write-enters (a .s) (a .pool .now) (c .before .before .write .ensures .1) (a .object) (a .offset) (a .src .now) r
-
-closed-requires : tie.Need-closed-requires
-closed-requires c κs = search needs
 
 same-length : tie.Need-same-length
 same-length c = search needs
@@ -35,12 +36,72 @@ returns-2 c =
     let a = c .before .before .before .before .before .before .before .before .before .args in
     let k : c .before .before .before .before .before .before .write .result ≡ 0 = omega (arith, c .before .before .before .before .before .if1 .left) in
     let r : 0 ≡ refusal (a .s) (a .pool .now) (write (a .object) (a .offset) (a .src .now)) = sym k ∙ c .before .before .before .before .before .before .write .ensures .0 (a .pool .now) (a .src .now) refl refl in
-    let W = c .before .before .before .write-pages .ensures in
+    let e : c .before .before .before .overwrite-pages .result ≡ length (a .src .now) = search needs in
+    write-stays (a .s) (a .pool .now) (c .before .before .before .before .before .before .write .ensures .1) (a .object) (a .offset) (a .src .now) r _
+    (going-end (a .s) (a .pool .now) (a .object) (a .offset) (a .src .now) (a .s) _ (rw e at (c .before .before .before .overwrite-pages .ensures)))
+
+add-write-pages : tie.Need-add-write-pages
+add-write-pages c =
+    let a = c .before .before .before .before .before .before .before .before .before .before .args in
+    let k : c .before .before .before .before .before .before .before .write .result ≡ 0 = omega (arith, c .before .before .before .before .before .before .if1 .left) in
+    let r : 0 ≡ refusal (a .s) (a .pool .now) (write (a .object) (a .offset) (a .src .now)) = sym k ∙ c .before .before .before .before .before .before .before .write .ensures .0 (a .pool .now) (a .src .now) refl refl in
+    let R = write-enters (a .s) (a .pool .now) (c .before .before .before .before .before .before .before .write .ensures .1) (a .object) (a .offset) (a .src .now) r in
+    let G = c .before .before .before .before .overwrite-pages .ensures in
+    let h : c .before .before .before .before .overwrite-pages .result < length (a .src .now) = search (needs, G .few) in
+    omega (arith, R .ends)
+
+sub-write-pages : tie.Need-sub-write-pages
+sub-write-pages c = search needs
+
+part-write-pages-start : tie.Need-part-write-pages-start
+part-write-pages-start c = search needs
+
+part-write-pages-end : tie.Need-part-write-pages-end
+part-write-pages-end c = search needs
+
+write-pages-requires : tie.Need-write-pages-requires
+write-pages-requires c κs =
+    let a = c .before .before .before .before .before .before .before .before .before .before .before .args in
+    let k : c .before .before .before .before .before .before .before .before .write .result ≡ 0 = omega (arith, c .before .before .before .before .before .before .before .if1 .left) in
+    let r : 0 ≡ refusal (a .s) (a .pool .now) (write (a .object) (a .offset) (a .src .now)) = sym k ∙ c .before .before .before .before .before .before .before .before .write .ensures .0 (a .pool .now) (a .src .now) refl refl in
+    let R = write-enters (a .s) (a .pool .now) (c .before .before .before .before .before .before .before .before .write .ensures .1) (a .object) (a .offset) (a .src .now) r in
+    let G = c .before .before .before .before .before .overwrite-pages .ensures in
+    let h : c .before .before .before .before .before .overwrite-pages .result < length (a .src .now) = search (needs, G .few) in
+    rest-room (a .s) (a .pool .now) (a .object) (a .offset) (a .src .now) (c .before .before .before .before .before .overwrite-pages .result) _ G h (R .ends)
+
+closed-requires : tie.Need-closed-requires
+closed-requires c κs = search needs
+
+same-length-2 : tie.Need-same-length-2
+same-length-2 c = search needs
+
+returns-3 : tie.Need-returns-3
+returns-3 c =
+    let a = c .before .before .before .before .before .before .before .before .before .before .before .before .before .before .before .args in
+    let k : c .before .before .before .before .before .before .before .before .before .before .before .before .write .result ≡ 0 = omega (arith, c .before .before .before .before .before .before .before .before .before .before .before .if1 .left) in
+    let r : 0 ≡ refusal (a .s) (a .pool .now) (write (a .object) (a .offset) (a .src .now)) = sym k ∙ c .before .before .before .before .before .before .before .before .before .before .before .before .write .ensures .0 (a .pool .now) (a .src .now) refl refl in
+    let R = write-enters (a .s) (a .pool .now) (c .before .before .before .before .before .before .before .before .before .before .before .before .write .ensures .1) (a .object) (a .offset) (a .src .now) r in
+    let G = c .before .before .before .before .before .before .before .before .before .overwrite-pages .ensures in
+    let h : c .before .before .before .before .before .before .before .before .before .overwrite-pages .result < length (a .src .now) = search (needs, G .few) in
     let m = c .closed .ensures in
     handed _ _ _ _ _ _ _ _ (m .0)
-    (write-done (a .s) (a .pool .now) (c .before .before .before .before .before .before .write .ensures .1) (a .object) (a .offset) (a .src .now) r _ _ W _ (m .1))
+    (write-done (a .s) (a .pool .now) (c .before .before .before .before .before .before .before .before .before .before .before .before .write .ensures .1) (a .object) (a .offset) (a .src .now) r _ _
+    (rest-written (a .s) (a .pool .now) (a .object) (a .offset) (a .src .now) (c .before .before .before .before .before .before .before .before .before .overwrite-pages .result) _ G h _ _ (c .before .before .before .write-pages .ensures)) _ (m .1))
 
 pub write-spec : {M : Type 1} → statement M
 write-spec =
     tie.close
-    (tie.spec write-requires returns write-pages-requires closed-requires same-length returns-2)
+    (tie.spec
+    write-requires
+    returns
+    overwrite-pages-requires
+    same-length
+    returns-2
+    add-write-pages
+    sub-write-pages
+    part-write-pages-start
+    part-write-pages-end
+    write-pages-requires
+    closed-requires
+    same-length-2
+    returns-3)

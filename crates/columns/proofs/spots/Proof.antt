@@ -10,13 +10,13 @@ use Rattle.columns.proofs.spots.Statement.{statement}
 use Rattle.columns.proofs.spots.Tie as tie
 
 abbrev Inv-loop : tie.InvT-loop
-Inv-loop places d₀ f₀ d f = (f ≤ 1024) × (length d ≡ 1024) × Filled (λ g x. spotOf x ≡ placeAt places g) f d
+Inv-loop d₀ places f₀ d f = (f ≤ 1024) × (length d ≡ 1024) × Filled (λ g x. spotOf x ≡ placeAt places g) f d
 
 abbrev μ-loop : tie.MeasureT-loop
-μ-loop places d₀ f₀ d f = 1024 - f
+μ-loop d₀ places f₀ d f = 1024 - f
 
 loop-holds : tie.Need-loop-holds Inv-loop μ-loop
-loop-holds c = (search needs, search needs, filled-none (λ g x. spotOf x ≡ placeAt (c .args .t1) g) _)
+loop-holds c = (search needs, c .pre, filled-none (λ g x. spotOf x ≡ placeAt (c .args .t1) g) _)
 
 mul-p : tie.Need-mul-p Inv-loop μ-loop
 mul-p c = search needs
@@ -39,8 +39,8 @@ add-d c = search needs
 mul-d-2 : tie.Need-mul-d-2 Inv-loop μ-loop
 mul-d-2 c = search needs
 
-array-write-d : tie.Need-array-write-d Inv-loop μ-loop
-array-write-d c = search needs
+element-write-d : tie.Need-element-write-d Inv-loop μ-loop
+element-write-d c = search needs
 
 add-f : tie.Need-add-f Inv-loop μ-loop
 add-f c = search needs
@@ -79,7 +79,7 @@ spots-spec =
     cast-d-2
     add-d
     mul-d-2
-    array-write-d
+    element-write-d
     add-f
     loop-less
     loop-again

@@ -1,54 +1,62 @@
-use mathlib.Core.Path.{_≡_, sym, _∙_}
-use Prim.Native.Nat.{ℕ, _<_}
+-- `look::locate` meets its contract: the range that covers the page is the last that begins by it.
+use mathlib.Core.Path.{_≡_, ap, sym, _∙_}
+use Prim.Native.Nat.{ℕ}
+use Rattle.table.specs.declared.PageRange.{PageRange}
 use Rattle.table.specs.declared.Found.the-variants as found
-use Rattle.table.specs.Table.{rangedOf, coveringAt}
+use lib.ListN.{getD}
+use Rattle.table.specs.Table.{rangedOf, coveringAt, zeroRange}
+use Rattle.table.specs.Searching.{begun-small, reach-told, reach-last}
 use Rattle.store.specs.Abs.{used}
 use Rattle.store.specs.Tabled.{Covered, covered-at}
-use Rattle.look.specs.Look.{located}
+use Rattle.look.specs.Look.{located, inRange}
 use native.Mathlib.Omega.{arith}
 use borrow.Author.Needs.{needs}
 use Rattle.look.proofs.locate.Statement.{statement}
 use Rattle.look.proofs.locate.Tie as tie
 
-covering-requires : tie.Need-covering-requires
-covering-requires c κs = search needs
+add-begin-before : tie.Need-add-begin-before
+add-begin-before c = search needs
+
+begin-before-requires : tie.Need-begin-before-requires
+begin-before-requires c κs = search needs
+
+reaching-requires : tie.Need-reaching-requires
+reaching-requires c κs =
+    let a = c .before .before .before .args in
+    let q = c .before .before .before .pre in
+    let b = c .before .begin-before .result in
+    let B = c .before .begin-before .ensures in
+    begun-small (a .s .ranges) (a .s .count) (a .g) (q .0) b B
 
 enum-told : tie.Need-enum-told
 enum-told c = search needs
 
-enum-known-k : tie.Need-enum-known-k
-enum-known-k c = search needs
+enum-told-2 : tie.Need-enum-told-2
+enum-told-2 c = search needs
 
-mul-r : tie.Need-mul-r
-mul-r c =
-    let a = c .before .before .before .before .before .args in
-    let q = c .before .before .before .before .before .pre in
-    let e : coveringAt (a .g) (rangedOf (used (a .s))) ≡ found.At (c .before .k .given .0 .0) = sym (c .before .before .before .covering .ensures) ∙ c .before .k .given .1 in
-    let h : c .before .k .given .0 .0 < 512 = omega (arith, covered-at (a .s .ranges) (a .s .count) (q .0) (a .g) (c .before .k .given .0 .0) e .inside, q .0 .few) in
-    search needs
-
-array-copy-out-r : tie.Need-array-copy-out-r
-array-copy-out-r c =
-    let a = c .before .before .before .before .before .args in
-    let q = c .before .before .before .before .before .pre in
-    let e : coveringAt (a .g) (rangedOf (used (a .s))) ≡ found.At (c .before .k .given .0 .0) = sym (c .before .before .before .covering .ensures) ∙ c .before .k .given .1 in
-    omega (arith, covered-at (a .s .ranges) (a .s .count) (q .0) (a .g) (c .before .k .given .0 .0) e .inside, q .0 .few)
-
-in-slot-requires : tie.Need-in-slot-requires
-in-slot-requires c κs =
+in-range-requires : tie.Need-in-range-requires
+in-range-requires c κs =
     let a = c .before .before .before .before .before .before .args in
     let q = c .before .before .before .before .before .before .pre in
-    let k : ℕ = c .before .before .k .given .0 .0 in
-    let e : coveringAt (a .g) (rangedOf (used (a .s))) ≡ found.At k = sym (c .before .before .before .before .covering .ensures) ∙ c .before .before .k .given .1 in
+    let b = c .before .before .before .before .begin-before .result in
+    let B = c .before .before .before .before .begin-before .ensures in
+    let t = reach-told (a .s .ranges) (a .s .count) (a .g) (q .0) b B in
+    let k : ℕ = c .enum-told2 .given .0 .0 in
+    let h = sym (c .before .before .reaching .ensures) ∙ c .enum-told2 .given .1 in
+    let e : coveringAt (a .g) (rangedOf (used (a .s))) ≡ found.At k = sym t ∙ h in
+    let r : b .last ≡ getD (a .s .ranges) k zeroRange = reach-last (a .s .ranges) (a .s .count) (a .g) (q .0) b B k h in
     let C : Covered (a .s .ranges) (a .s .count) (q .0) (a .g) k = covered-at (a .s .ranges) (a .s .count) (q .0) (a .g) k e in
-    (q .0 .small k (C .inside), C .low, C .high, q .1)
+    rw r (q .0 .small k (C .inside), C .low, C .high, q .1)
 
 returns : tie.Need-returns
 unfolding located
 returns c =
-    let a = c .before .before .before .before .args in
-    let q = c .before .before .before .before .pre in
-    let e : coveringAt (a .g) (rangedOf (used (a .s))) ≡ found.Missing = sym (c .before .before .covering .ensures) ∙ c .enum-told .given .1 in
+    let a = c .before .before .before .before .before .before .args in
+    let q = c .before .before .before .before .before .before .pre in
+    let b = c .before .before .before .before .begin-before .result in
+    let B = c .before .before .before .before .begin-before .ensures in
+    let t = reach-told (a .s .ranges) (a .s .count) (a .g) (q .0) b B in
+    let e : coveringAt (a .g) (rangedOf (used (a .s))) ≡ found.Missing = sym t ∙ sym (c .before .before .reaching .ensures) ∙ c .enum-told .given .1 in
     rw e
 
 returns-2 : tie.Need-returns-2
@@ -56,19 +64,24 @@ unfolding located
 returns-2 c =
     let a = c .before .before .before .before .before .before .before .args in
     let q = c .before .before .before .before .before .before .before .pre in
-    let k : ℕ = c .before .before .before .k .given .0 .0 in
-    let e : coveringAt (a .g) (rangedOf (used (a .s))) ≡ found.At k = sym (c .before .before .before .before .before .covering .ensures) ∙ c .before .before .before .k .given .1 in
-    rw e (c .in-slot .ensures)
+    let b = c .before .before .before .before .before .begin-before .result in
+    let B = c .before .before .before .before .before .begin-before .ensures in
+    let t = reach-told (a .s .ranges) (a .s .count) (a .g) (q .0) b B in
+    let k : ℕ = c .before .enum-told2 .given .0 .0 in
+    let h = sym (c .before .before .before .reaching .ensures) ∙ c .before .enum-told2 .given .1 in
+    let e : coveringAt (a .g) (rangedOf (used (a .s))) ≡ found.At k = sym t ∙ h in
+    let r : b .last ≡ getD (a .s .ranges) k zeroRange = reach-last (a .s .ranges) (a .s .count) (a .g) (q .0) b B k h in
+    rw e (c .in-range .ensures ∙ ap (λ (z : PageRange). inRange (a .s) z (a .g)) r)
 
 pub locate-spec : {M : Type 1} → statement M
 locate-spec =
     tie.close
     (tie.spec
-    covering-requires
+    add-begin-before
+    begin-before-requires
+    reaching-requires
     enum-told
-    enum-known-k
-    mul-r
-    array-copy-out-r
-    in-slot-requires
+    enum-told-2
+    in-range-requires
     returns
     returns-2)

@@ -1,11 +1,8 @@
+-- `look::state_of` meets its contract: in each arm the answer is that of the page's place.
 use mathlib.Core.Path.{_≡_, sym, _∙_}
-use Prim.Native.Nat.{_<_}
-use Rattle.store.specs.Tabled.{covered-at}
 use Rattle.look.specs.declared.Located.{Located}
 use Rattle.look.specs.declared.PageAt.the-variants.{Absent, Present}
 use Rattle.look.specs.Look.{located}
-use Rattle.look.specs.Found.{present-slot}
-use native.Mathlib.Omega.{arith}
 use borrow.Author.Needs.{needs}
 use Rattle.look.proofs.state_of.Statement.{statement}
 use Rattle.look.proofs.state_of.Tie as tie
@@ -20,13 +17,7 @@ enum-known-l : tie.Need-enum-known-l
 enum-known-l c = search needs
 
 sharing-requires : tie.Need-sharing-requires
-sharing-requires c κs =
-    let a = c .before .before .before .before .args in
-    let q = c .before .before .before .before .pre in
-    let l : Located = c .before .l .given .0 .0 in
-    let e : located (a .s) (a .g) ≡ Present l = sym (c .before .before .before .locate .ensures) ∙ c .before .l .given .1 in
-    let h : l .slot < a .s .count = covered-at (a .s .ranges) (a .s .count) (q .0) (a .g) (l .slot) (present-slot (a .s) (a .g) l e) .inside in
-    (omega (arith, q .0 .few), q .0 .few)
+sharing-requires c κs = c .before .before .before .before .pre .0 .few
 
 returns : tie.Need-returns
 returns c =

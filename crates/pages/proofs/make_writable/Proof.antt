@@ -41,7 +41,7 @@ private-page-requires c κs =
     let g : c .before .before .before .before .before .line-of .result ≡ line (a .object) (a .page .0) = c .before .before .before .before .before .line-of .ensures in
     let h : located (a .s) (line (a .object) (a .page .0)) ≡ Present (c .before .before .l .given .0 .0) = sym (c .before .before .before .before .locate .ensures ∙ ap (located (a .s)) g) ∙ c .before .before .l .given .1 in
     let H = located-held (a .s) (inside-table (a .s) (a .pool .now) (q .0)) (inside-room (a .s) (a .pool .now) (q .0)) (a .object) (a .page .0) (a .pool .now) (c .before .before .l .given .0 .0) h in
-    ((q .0, q .1, q .2), (H .present, H .slot, H .backing))
+    ((q .0, q .1, q .2), (H .present, H .backing))
 
 same-length : tie.Need-same-length
 same-length c = search needs

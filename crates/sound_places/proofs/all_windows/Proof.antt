@@ -1,62 +1,46 @@
--- `sound_places::all_windows` meets its contract. The loop's invariant: the frames below `f` pass. The measure is the number of frames left.
-use mathlib.Core.Path.{_≡_, sym, _∙_}
+-- `sound_places::all_windows` meets its contract. The loop's invariant: the frames below `f` pass, and `hint` is a link. The measure is the number of frames left.
+use mathlib.Core.Path.{_≡_}
 use mathlib.Core.Bool.{true}
+use mathlib.Core.Logic.{⊎-elim}
 use Prim.Native.Nat.{_-_, _≤_}
-use native.Mathlib.Omega.{arith}
-use lib.ListN.{take}
 use borrow.Author.Needs.{needs}
-use Rattle.lists.specs.Every.{allBelow, below-fails, below-next, below-zero}
-use Rattle.table.specs.Table.{rangesOf}
+use Rattle.lists.specs.Every.{allBelow, below-done, below-fails, below-next, below-zero}
 use Rattle.places.specs.Places.{placeAt}
-use Rattle.store.specs.Sound.{window?}
-use Rattle.sound_places.specs.Windows.{walk-window, walked?, window-walked, windows-walked}
+use Rattle.columns.specs.Columns.{spotted}
+use Rattle.sound_places.specs.Windows.{hinted-none, walked-free, walked-met, walked-none, walked?, Hinted}
 use Rattle.sound_places.proofs.all_windows.Statement.{statement}
 use Rattle.sound_places.proofs.all_windows.Tie as tie
 
 abbrev Inv-loop : tie.InvT-loop
-Inv-loop count frames places tags spans heads next f₀ f = (f ≤ frames) × (allBelow (λ g. walked? tags spans heads (placeAt places g)) f ≡ true)
+Inv-loop spots frames tags spans heads next hint₀ f₀ hint f = (f ≤ frames) × Hinted tags heads next hint × (allBelow (λ g. walked? tags spans heads (placeAt (spotted spots) g)) f ≡ true)
 
 abbrev μ-loop : tie.MeasureT-loop
-μ-loop count frames places tags spans heads next f₀ f = frames - f
-
-tags-requires : tie.Need-tags-requires Inv-loop μ-loop
-tags-requires c κs = search needs
-
-spans-requires : tie.Need-spans-requires Inv-loop μ-loop
-spans-requires c κs = search needs
-
-chained-requires : tie.Need-chained-requires Inv-loop μ-loop
-chained-requires c κs = search needs
+μ-loop spots frames tags spans heads next hint₀ f₀ hint f = frames - f
 
 loop-holds : tie.Need-loop-holds Inv-loop μ-loop
 loop-holds c =
+    let a = c .args in (
+      search needs,
+      hinted-none (a .tags .now) (a .heads .now) (a .next .now) (c .pre .1),
+      below-zero (λ g. walked? (a .tags .now) (a .spans .now) (a .heads .now) (placeAt (spotted (a .spots .now)) g)),
+    )
+
+mul-x : tie.Need-mul-x Inv-loop μ-loop
+mul-x c = search needs
+
+element-copy-out-x : tie.Need-element-copy-out-x Inv-loop μ-loop
+element-copy-out-x c = search needs
+
+frame-window-requires : tie.Need-frame-window-requires Inv-loop μ-loop
+frame-window-requires c κs = c .before .before .before .loop .inv .1
+
+returns : tie.Need-returns Inv-loop μ-loop
+returns c =
     let a = c .before .before .before .before .before .before .args in
-    (search needs, below-zero (λ g. walked? (c .before .before .before .before .before .tags .result) (c .before .before .before .before .spans .result) (c .before .before .chained .result .heads) (placeAt (a .t3) g)))
-
-mul-p : tie.Need-mul-p Inv-loop μ-loop
-mul-p c = search needs
-
-array-copy-out-p : tie.Need-array-copy-out-p Inv-loop μ-loop
-array-copy-out-p c = search needs
-
-cast-head : tie.Need-cast-head Inv-loop μ-loop
-cast-head c = search needs
-
-mul-head : tie.Need-mul-head Inv-loop μ-loop
-mul-head c = search needs
-
-array-read-head : tie.Need-array-read-head Inv-loop μ-loop
-array-read-head c = search needs
-
-in-some-window-requires : tie.Need-in-some-window-requires Inv-loop μ-loop
-in-some-window-requires c κs =
-    let a = c .before .before .before .before .before .before .before .before .before .before .before .before .before .args in
-    let t = c .before .before .before .before .before .before .before .before .before .before .before .before .tags in
-    let x = c .before .before .before .before .before .before .before .before .before .before .before .spans in
-    let h = c .before .before .before .before .before .before .before .before .before .chained in
-    let l = c .before .before .before .before .before .before .loop in
-    walk-window (a .ranges) (t .result) (x .result) (a .count) (search needs) (t .ensures) (x .ensures) (h .result .heads) (h .result .next) (h .ensures)
-    (placeAt (a .t3) (l .f)) (search needs)
+    let l = c .before .before .before .before .before .loop in
+    let w = c .before .frame-window in
+    let t = walked-none (a .tags .now) (a .spans .now) (a .heads .now) (a .spots .now) (l .f) (a .next .now) (w .result) (w .ensures) (c .before .before .if1 .taken) (c .if2 .taken) in
+    below-fails (λ g. walked? (a .tags .now) (a .spans .now) (a .heads .now) (placeAt (spotted (a .spots .now)) g)) (a .frames) (l .f) (search needs) t
 
 add-f : tie.Need-add-f Inv-loop μ-loop
 add-f c = search needs
@@ -66,38 +50,22 @@ loop-less c = search needs
 
 loop-again : tie.Need-loop-again Inv-loop μ-loop
 loop-again c =
-    let a = c .before .before .before .before .before .before .before .before .before .before .before .before .before .before .before .args in
-    let t = c .before .before .before .before .before .before .before .before .before .before .before .before .before .before .tags in
-    let x = c .before .before .before .before .before .before .before .before .before .before .before .before .before .spans in
-    let h = c .before .before .before .before .before .before .before .before .before .before .before .chained in
-    let l = c .before .before .before .before .before .before .before .before .loop in
-    let q = sym (c .before .in-some-window .ensures) ∙ c .if1 .taken in
-    (search needs, below-next (λ g. walked? (t .result) (x .result) (h .result .heads) (placeAt (a .t3) g)) (l .f) (l .inv .1) q)
-
-returns : tie.Need-returns Inv-loop μ-loop
-returns c =
-    let a = c .before .before .before .before .before .before .before .before .before .before .before .before .before .before .before .args in
-    let t = c .before .before .before .before .before .before .before .before .before .before .before .before .before .before .tags in
-    let x = c .before .before .before .before .before .before .before .before .before .before .before .before .before .spans in
-    let h = c .before .before .before .before .before .before .before .before .before .before .before .chained in
-    let l = c .before .before .before .before .before .before .before .before .loop in
-    let q = sym (c .before .in-some-window .ensures) ∙ c .if1 .left in
-    let b = c .before .before .before .before .before .before .before .before .before .before .before .before .before .before .before .pre .0 in
-    let z = c .before .before .before .before .before .before .before .before .before .before .before .before .before .before .before .good in
-    let w = window-walked (a .ranges) (t .result) (x .result) (a .count) (omega arith) (t .ensures) (x .ensures) (h .result .heads) (h .result .next)
-    (h .ensures) (placeAt (a .t3) (l .f)) in
-    below-fails (λ g. window? (rangesOf (take (a .count) (a .ranges))) (placeAt (a .t3) g)) (a .frames) (l .f) (search needs) (sym w ∙ q)
+    let a = c .before .before .before .before .args in
+    let l = c .before .before .before .loop in (
+      search needs,
+      ⊎-elim (λ w. rw (w .3) (w .1 .ensures .hinted)) (λ w. rw (w .1) (l .inv .1)) (c .if1 .came),
+      below-next (λ g. walked? (a .tags .now) (a .spans .now) (a .heads .now) (placeAt (spotted (a .spots .now)) g)) (l .f) (l .inv .2)
+          (⊎-elim
+          (λ w. walked-met (a .tags .now) (a .spans .now) (a .heads .now) (a .spots .now) (l .f) (a .next .now) (w .1 .result) (w .1 .ensures) (w .0 .taken) (w .2 .left))
+          (λ w. walked-free (a .tags .now) (a .spans .now) (a .heads .now) (a .spots .now) (l .f) (w .0 .left))
+          (c .if1 .came)),
+    )
 
 returns-2 : tie.Need-returns-2 Inv-loop μ-loop
 returns-2 c =
-    let a = c .before .before .before .before .before .before .before .before .args in
-    let t = c .before .before .before .before .before .before .before .tags in
-    let x = c .before .before .before .before .before .before .spans in
-    let h = c .before .before .before .before .chained in
+    let a = c .before .before .args in
     let l = c .before .loop in
-    let e : l .f ≡ a .frames = omega arith in
-    windows-walked (a .ranges) (t .result) (x .result) (a .count) (search needs) (t .ensures) (x .ensures) (h .result .heads) (h .result .next)
-    (h .ensures) (a .t3) (a .frames) (rw (← e) (l .inv .1))
+    below-done (λ g. walked? (a .tags .now) (a .spans .now) (a .heads .now) (placeAt (spotted (a .spots .now)) g)) (a .frames) (l .f) (l .inv .2) (search needs) (search needs)
 
 pub all-windows-spec : {M : Type 1} → statement M
 all-windows-spec =
@@ -105,18 +73,12 @@ all-windows-spec =
     (tie.spec
     Inv-loop
     μ-loop
-    tags-requires
-    spans-requires
-    chained-requires
     loop-holds
-    mul-p
-    array-copy-out-p
-    cast-head
-    mul-head
-    array-read-head
-    in-some-window-requires
+    mul-x
+    element-copy-out-x
+    frame-window-requires
+    returns
     add-f
     loop-less
     loop-again
-    returns
     returns-2)

@@ -1,5 +1,6 @@
 -- `sound_places::alone` meets its contract. The loop's invariant: the walk along the chain is at link `g`. The measure is `g`. A free frame passes.
 use Prim.Native.Nat.{_-_}
+use native.Mathlib.Omega.{arith}
 use borrow.Author.Needs.{needs}
 use Rattle.chains.specs.Walk.{Walk, walk-end, walk-hit, walk-less, walk-next}
 use Rattle.columns.specs.Columns.{spotted}
@@ -29,6 +30,9 @@ mul-g c = search needs
 element-copy-out-g : tie.Need-element-copy-out-g Inv-loop μ-loop
 element-copy-out-g c = search needs
 
+cast-g : tie.Need-cast-g Inv-loop μ-loop
+cast-g c = search needs
+
 loop-holds : tie.Need-loop-holds Inv-loop μ-loop
 loop-holds c = c .before .before .before .pre .1
 
@@ -57,6 +61,15 @@ mul-g-2 c = search needs
 
 element-copy-out-g-2 : tie.Need-element-copy-out-g-2 Inv-loop μ-loop
 element-copy-out-g-2 c = search needs
+
+cast-g-2 : tie.Need-cast-g-2 Inv-loop μ-loop
+cast-g-2 c =
+    let a = c .before .before .before .before .before .before .before .before .args in
+    let l = c .before .before .before .before .loop in
+    let h = walk-less (a .next .now) (apartFrom (spotted (a .spots .now)) (a .f)) (a .f) (l .g) (l .inv) (search needs) in
+    let w = l .inv .low in
+    let b = c .before .before .before .before .before .before .before .before .pre .0 in
+    omega arith
 
 loop-less : tie.Need-loop-less Inv-loop μ-loop
 loop-less c =
@@ -89,6 +102,7 @@ alone-spec =
     returns
     mul-g
     element-copy-out-g
+    cast-g
     loop-holds
     sub-if2
     mul-if2
@@ -97,6 +111,7 @@ alone-spec =
     sub-g
     mul-g-2
     element-copy-out-g-2
+    cast-g-2
     loop-less
     loop-again
     returns-3)

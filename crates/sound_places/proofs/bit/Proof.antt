@@ -1,17 +1,22 @@
--- `sound_places::bit` meets its contract: with the bit known, the test is the definition's.
+-- `sound_places::bit` meets its contract: with the bit known, and whether the frame is one of the store, the test is the definition's.
+use Prim.Native.Nat.{_/_, _%_, _^_}
+use lib.Dec.{eqb}
 use borrow.Author.Needs.{needs}
-use borrow.Author.Tests.{eq-eqb, ne-eqb}
+use Rattle.sound_places.specs.Bits.{bit-beyond, bit-free, bit-used}
 use Rattle.sound_places.proofs.bit.Statement.{statement}
 use Rattle.sound_places.proofs.bit.Tie as tie
 
-shr-if1 : tie.Need-shr-if1
-shr-if1 c = search needs
+shr-set : tie.Need-shr-set
+shr-set c = search needs
 
 returns : tie.Need-returns
-returns c = rw (eq-eqb _ _ (c .if1 .taken))
+returns c = let a = c .before .before .args in rw (c .if2 .taken) (bit-free (a .frames) (a .f) (a .x) (c .before .if1 .taken))
 
 returns-2 : tie.Need-returns-2
-returns-2 c = rw (ne-eqb _ _ (c .if1 .left))
+returns-2 c = let a = c .before .before .args in rw (c .if2 .left) (bit-used (a .frames) (a .f) (a .x) (c .before .if1 .taken))
+
+returns-3 : tie.Need-returns-3
+returns-3 c = let a = c .before .args in bit-beyond (a .frames) (a .f) (a .x) (eqb (a .word / 2 ^ (a .f % 64) % 2) 1) (c .if1 .left)
 
 pub bit-spec : {M : Type 1} → statement M
-bit-spec = tie.close (tie.spec shr-if1 returns returns-2)
+bit-spec = tie.close (tie.spec shr-set returns returns-2 returns-3)

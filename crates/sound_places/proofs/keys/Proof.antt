@@ -16,7 +16,7 @@ abbrev μ-loop : tie.MeasureT-loop
 μ-loop spots frames d₀ f₀ d f = frames - f
 
 loop-holds : tie.Need-loop-holds Inv-loop μ-loop
-loop-holds c = (search needs, search needs, filled-none (λ f k. k ≡ keyOf (getD (c .args .spots .now) f 0) f) _)
+loop-holds c = (search needs, c .pre .1, filled-none (λ f k. k ≡ keyOf (getD (c .args .spots .now) f 0) f) _)
 
 mul-key : tie.Need-mul-key Inv-loop μ-loop
 mul-key c = search needs
@@ -30,8 +30,8 @@ key-requires c κs = search needs
 mul-d : tie.Need-mul-d Inv-loop μ-loop
 mul-d c = search needs
 
-array-write-d : tie.Need-array-write-d Inv-loop μ-loop
-array-write-d c = search needs
+element-write-d : tie.Need-element-write-d Inv-loop μ-loop
+element-write-d c = search needs
 
 add-f : tie.Need-add-f Inv-loop μ-loop
 add-f c = search needs
@@ -62,7 +62,7 @@ keys-spec =
     element-copy-out-key
     key-requires
     mul-d
-    array-write-d
+    element-write-d
     add-f
     loop-less
     loop-again

@@ -1,8 +1,13 @@
--- `sound_ranges::agrees` meets its contract. The loop's invariant: the walk along the chain is at link `k`. The measure is `k`.
-use mathlib.Core.Path.{sym, _∙_}
+-- `sound_ranges::agrees` meets its contract. The loop's invariant: the walk along the chain is at link `k`. The measure is `k`. A range of the very backing
+-- agrees with all before it, and so then does range `i`.
+use mathlib.Core.Path.{_≡_, sym, ap, _∙_}
+use mathlib.Core.Bool.{true}
+use Prim.Native.Nat.{_+_, _-_, _≤_}
+use native.Mathlib.Omega.{arith}
 use borrow.Author.Needs.{needs}
+use Rattle.lists.specs.Every.{allBelow}
 use Rattle.chains.specs.Walk.{Walk, walk-end, walk-hit, walk-less, walk-next}
-use Rattle.sound_ranges.specs.Agree.{alikeTo}
+use Rattle.sound_ranges.specs.Agree.{alikeTo, same-agrees}
 use Rattle.sound_ranges.proofs.agrees.Statement.{statement}
 use Rattle.sound_ranges.proofs.agrees.Tie as tie
 
@@ -24,17 +29,29 @@ mul-k c = search needs
 element-copy-out-k : tie.Need-element-copy-out-k Inv-loop μ-loop
 element-copy-out-k c = search needs
 
+cast-k : tie.Need-cast-k Inv-loop μ-loop
+cast-k c = search needs
+
 loop-holds : tie.Need-loop-holds Inv-loop μ-loop
 loop-holds c = c .before .before .pre .1
 
-sub-same-kind : tie.Need-sub-same-kind Inv-loop μ-loop
-sub-same-kind c = search needs
+sub-x : tie.Need-sub-x Inv-loop μ-loop
+sub-x c = search needs
 
-mul-same-kind : tie.Need-mul-same-kind Inv-loop μ-loop
-mul-same-kind c = search needs
+mul-x : tie.Need-mul-x Inv-loop μ-loop
+mul-x c = search needs
 
-element-copy-out-same-kind : tie.Need-element-copy-out-same-kind Inv-loop μ-loop
-element-copy-out-same-kind c = search needs
+element-copy-out-x : tie.Need-element-copy-out-x Inv-loop μ-loop
+element-copy-out-x c = search needs
+
+returns : tie.Need-returns Inv-loop μ-loop
+returns c =
+    let a = c .before .before .before .before .before .before .args in
+    let l = c .before .before .before .loop in
+    let q : allBelow (alikeTo (a .tags .now) (a .i)) (l .k - 1 + 1) ≡ true =
+    same-agrees (a .tags .now) (a .i) (l .k - 1) (omega (arith, l .inv .low)) (c .before .before .before .before .before .before .pre .2) (c .if1 .taken) in
+    let e : l .k - 1 + 1 ≡ l .k = omega arith in
+    sym (rw e at q) ∙ l .inv .same
 
 same-kind-requires : tie.Need-same-kind-requires Inv-loop μ-loop
 same-kind-requires c κs = search needs
@@ -48,26 +65,34 @@ mul-k-2 c = search needs
 element-copy-out-k-2 : tie.Need-element-copy-out-k-2 Inv-loop μ-loop
 element-copy-out-k-2 c = search needs
 
+cast-k-2 : tie.Need-cast-k-2 Inv-loop μ-loop
+cast-k-2 c =
+    let a = c .before .before .before .before .before .before .before .before .before .args in
+    let l = c .before .before .before .before .before .before .loop in
+    let w = walk-less (a .next .now) (alikeTo (a .tags .now) (a .i)) (a .i) (l .k) (l .inv) (search needs) in
+    let u : l .k ≤ 1024 = omega (arith, l .inv .low, c .before .before .before .before .before .before .before .before .before .pre .0) in
+    search (needs, w, u)
+
 loop-less : tie.Need-loop-less Inv-loop μ-loop
 loop-less c =
-    let a = c .before .before .before .before .before .before .before .before .args in
-    let l = c .before .before .before .before .before .loop in
+    let a = c .before .before .before .before .before .before .before .before .before .args in
+    let l = c .before .before .before .before .before .before .loop in
     walk-less (a .next .now) (alikeTo (a .tags .now) (a .i)) (a .i) (l .k) (l .inv) (search needs)
 
 loop-again : tie.Need-loop-again Inv-loop μ-loop
 loop-again c =
-    let a = c .before .before .before .before .before .before .before .before .args in
-    let l = c .before .before .before .before .before .loop in
-    walk-next (a .next .now) (alikeTo (a .tags .now) (a .i)) (a .i) (l .k) (l .inv) (search needs) (sym (c .before .before .same-kind .ensures) ∙ c .before .if1 .taken)
-
-returns : tie.Need-returns Inv-loop μ-loop
-returns c =
-    let a = c .before .before .before .before .before .before .before .args in
-    let l = c .before .before .before .before .loop in
-    walk-hit (a .next .now) (alikeTo (a .tags .now) (a .i)) (a .i) (l .k) (l .inv) (search needs) (sym (c .before .same-kind .ensures) ∙ c .if1 .left)
+    let a = c .before .before .before .before .before .before .before .before .before .args in
+    let l = c .before .before .before .before .before .before .loop in
+    walk-next (a .next .now) (alikeTo (a .tags .now) (a .i)) (a .i) (l .k) (l .inv) (search needs) (sym (c .before .before .same-kind .ensures) ∙ c .before .if2 .taken)
 
 returns-2 : tie.Need-returns-2 Inv-loop μ-loop
 returns-2 c =
+    let a = c .before .before .before .before .before .before .before .before .args in
+    let l = c .before .before .before .before .before .loop in
+    walk-hit (a .next .now) (alikeTo (a .tags .now) (a .i)) (a .i) (l .k) (l .inv) (search needs) (sym (c .before .same-kind .ensures) ∙ c .if2 .left)
+
+returns-3 : tie.Need-returns-3 Inv-loop μ-loop
+returns-3 c =
     let a = c .before .before .before .before .args in
     let l = c .before .loop in
     walk-end (a .next .now) (alikeTo (a .tags .now) (a .i)) (a .i) (l .k) (l .inv) (search needs)
@@ -82,15 +107,18 @@ agrees-spec =
     element-copy-out-y
     mul-k
     element-copy-out-k
+    cast-k
     loop-holds
-    sub-same-kind
-    mul-same-kind
-    element-copy-out-same-kind
+    sub-x
+    mul-x
+    element-copy-out-x
+    returns
     same-kind-requires
     sub-k
     mul-k-2
     element-copy-out-k-2
+    cast-k-2
     loop-less
     loop-again
-    returns
-    returns-2)
+    returns-2
+    returns-3)

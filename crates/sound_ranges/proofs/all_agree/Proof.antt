@@ -4,32 +4,25 @@ use mathlib.Core.Bool.{true}
 use Prim.Native.Nat.{_-_, _≤_}
 use native.Mathlib.Omega.{arith}
 use borrow.Author.Needs.{needs}
-use Rattle.lists.specs.Every.{allBelow, below-next, below-zero}
-use Rattle.sound_ranges.specs.Agree.{agree-all, agree-none, alikeTo, walk-agree}
+use Rattle.lists.specs.Every.{allBelow, below-done, below-fails, below-next, below-zero}
+use Rattle.sound_ranges.specs.Agree.{alikeTo, walk-agree}
 use Rattle.sound_ranges.proofs.all_agree.Statement.{statement}
 use Rattle.sound_ranges.proofs.all_agree.Tie as tie
 
 abbrev Inv-loop : tie.InvT-loop
-Inv-loop count tags next i₀ i = (i ≤ count) × (allBelow (λ j. allBelow (alikeTo tags j) j) i ≡ true)
+Inv-loop tags next count i₀ i = (i ≤ count) × (allBelow (λ j. allBelow (alikeTo tags j) j) i ≡ true)
 
 abbrev μ-loop : tie.MeasureT-loop
-μ-loop count tags next i₀ i = count - i
-
-tags-requires : tie.Need-tags-requires Inv-loop μ-loop
-tags-requires c κs = search needs
-
-chained-requires : tie.Need-chained-requires Inv-loop μ-loop
-chained-requires c κs = search needs
+μ-loop tags next count i₀ i = count - i
 
 loop-holds : tie.Need-loop-holds Inv-loop μ-loop
-loop-holds c = let t = c .before .before .before .tags in (search needs, below-zero (λ j. allBelow (alikeTo (t .result) j) j))
+loop-holds c = (search needs, below-zero (λ j. allBelow (alikeTo (c .args .tags .now) j) j))
 
 agrees-requires : tie.Need-agrees-requires Inv-loop μ-loop
 agrees-requires c κs =
-    let t = c .before .before .before .before .before .before .before .tags in
-    let h = c .before .before .before .before .before .chained in
-    let l = c .before .before .before .loop in
-    (search needs, walk-agree (t .result) (h .result .heads) (h .result .next) _ (l .i) (h .ensures) (search needs))
+    let a = c .before .before .args in
+    let l = c .before .loop in
+    (search needs, walk-agree (a .tags .now) (a .next .now) (a .count) (l .i) (c .before .before .pre .1) (search needs), l .inv .1)
 
 add-i : tie.Need-add-i Inv-loop μ-loop
 add-i c = search needs
@@ -39,24 +32,21 @@ loop-less c = search needs
 
 loop-again : tie.Need-loop-again Inv-loop μ-loop
 loop-again c =
-    let t = c .before .before .before .before .before .before .before .before .before .tags in
-    let l = c .before .before .before .before .before .loop in
-    (search needs, below-next (λ j. allBelow (alikeTo (t .result) j) j) (l .i) (l .inv .1) (sym (c .before .agrees .ensures) ∙ c .if1 .taken))
+    let a = c .before .before .before .before .args in
+    let l = c .before .before .before .loop in
+    (search needs, below-next (λ j. allBelow (alikeTo (a .tags .now) j) j) (l .i) (l .inv .1) (sym (c .before .agrees .ensures) ∙ c .if1 .taken))
 
 returns : tie.Need-returns Inv-loop μ-loop
 returns c =
-    let a = c .before .before .before .before .before .before .before .before .before .before .args in
-    let t = c .before .before .before .before .before .before .before .before .before .tags in
-    let l = c .before .before .before .before .before .loop in
-    agree-none (a .ranges) (t .result) (a .count) (search needs) (t .ensures) (l .i) (search needs) (sym (c .before .agrees .ensures) ∙ c .if1 .left)
+    let a = c .before .before .before .before .args in
+    let l = c .before .before .before .loop in
+    below-fails (λ j. allBelow (alikeTo (a .tags .now) j) j) (a .count) (l .i) (search needs) (sym (c .before .agrees .ensures) ∙ c .if1 .left)
 
 returns-2 : tie.Need-returns-2 Inv-loop μ-loop
 returns-2 c =
-    let a = c .before .before .before .before .before .before .args in
-    let t = c .before .before .before .before .before .tags in
+    let a = c .before .before .args in
     let l = c .before .loop in
-    let e : l .i ≡ a .count = omega arith in
-    agree-all (a .ranges) (t .result) (a .count) (search needs) (t .ensures) (rw (← e) (l .inv .1))
+    below-done (λ j. allBelow (alikeTo (a .tags .now) j) j) (a .count) (l .i) (l .inv .1) (search needs) (search needs)
 
 pub all-agree-spec : {M : Type 1} → statement M
 all-agree-spec =
@@ -64,8 +54,6 @@ all-agree-spec =
     (tie.spec
     Inv-loop
     μ-loop
-    tags-requires
-    chained-requires
     loop-holds
     agrees-requires
     add-i

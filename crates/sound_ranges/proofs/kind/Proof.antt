@@ -9,9 +9,6 @@ enum-told c = search needs
 enum-known-k : tie.Need-enum-known-k
 enum-known-k c = search needs
 
-stands-requires : tie.Need-stands-requires
-stands-requires c κs = search needs
-
 enum-known-k-2 : tie.Need-enum-known-k-2
 enum-known-k-2 c = search needs
 
@@ -28,7 +25,7 @@ returns : tie.Need-returns
 returns c = search needs
 
 returns-2 : tie.Need-returns-2
-returns-2 c = rw (c .before .before .before .before .k .given .1, c .before .before .stands .ensures)
+returns-2 c = rw (c .before .before .before .k .given .1)
 
 returns-3 : tie.Need-returns-3
 returns-3 c = rw (c .before .before .before .k2 .given .1)
@@ -39,7 +36,6 @@ kind-spec =
     (tie.spec
     enum-told
     enum-known-k
-    stands-requires
     enum-known-k-2
     cast-result
     cast-result-2

@@ -1,80 +1,26 @@
-use Rattle.table.specs.Searching.{starts-count, none-before, covers-it, ends-short}
-use Prim.Native.Nat.{_+_, _-_}
-use native.Mathlib.Omega.{arith}
+-- `table::covering` meets its contract: the range that covers a page is the last that begins by it.
+use mathlib.Core.Path.{_∙_}
 use borrow.Author.Needs.{needs}
+use Rattle.table.specs.Searching.{begun-small, reach-told}
 use Rattle.table.proofs.covering.Statement.{statement}
 use Rattle.table.proofs.covering.Tie as tie
 
-add-starts-before : tie.Need-add-starts-before
-add-starts-before c = search needs
+add-begin-before : tie.Need-add-begin-before
+add-begin-before c = search needs
 
-starts-before-requires : tie.Need-starts-before-requires
-starts-before-requires c κs = search needs
+begin-before-requires : tie.Need-begin-before-requires
+begin-before-requires c κs = search needs
+
+reaching-requires : tie.Need-reaching-requires
+reaching-requires c κs =
+    let a = c .before .args in
+    begun-small (a .ranges) (a .count) (a .g) (c .before .pre .0) (c .begin-before .result) (c .begin-before .ensures)
 
 returns : tie.Need-returns
 returns c =
     let a = c .before .before .args in
-    let s = c .before .starts-before .ensures in
-    let t = c .if1 .taken in
-    none-before (a .t1) (a .count) (c .before .before .pre .0) (a .g) (c .before .starts-before .result) s (omega arith)
-
-sub-i : tie.Need-sub-i
-sub-i c = search needs
-
-mul-r : tie.Need-mul-r
-mul-r c =
-    let a = c .before .before .args in
-    let s = c .before .starts-before .ensures in
-    let k = starts-count (a .t1) (a .count) (c .before .before .pre .0) (a .g + 1) in
-    let f = c .before .before .pre .0 .few in
-    let t = c .if1 .left in
-    omega (arith, k)
-
-array-copy-out-r : tie.Need-array-copy-out-r
-array-copy-out-r c =
-    let a = c .before .before .args in
-    let s = c .before .starts-before .ensures in
-    let k = starts-count (a .t1) (a .count) (c .before .before .pre .0) (a .g + 1) in
-    let f = c .before .before .pre .0 .few in
-    let t = c .if1 .left in
-    omega (arith, k)
-
-end-requires : tie.Need-end-requires
-end-requires c κs =
-    let a = c .before .before .before .args in
-    let s = c .before .before .starts-before .ensures in
-    let k = starts-count (a .t1) (a .count) (c .before .before .before .pre .0) (a .g + 1) in
-    let t = c .before .if1 .left in
-    c .before .before .before .pre .0 .small (c .before .before .starts-before .result - 1) (omega (arith, k))
-
-returns-2 : tie.Need-returns-2
-returns-2 c =
-    let a = c .before .before .before .before .before .args in
-    let s = c .before .before .before .before .starts-before .ensures in
-    let z = c .before .before .before .if1 .left in
-    let e = c .before .end .ensures in
-    let t = c .if2 .taken in
-    covers-it (a .t1) (a .count) (c .before .before .before .before .before .pre .0) (a .g) (c .before .before .before .before .starts-before .result) s (λ y. omega arith) (omega arith)
-
-returns-3 : tie.Need-returns-3
-returns-3 c =
-    let a = c .before .before .before .before .before .args in
-    let s = c .before .before .before .before .starts-before .ensures in
-    let z = c .before .before .before .if1 .left in
-    let e = c .before .end .ensures in
-    let t = c .if2 .left in
-    ends-short (a .t1) (a .count) (c .before .before .before .before .before .pre .0) (a .g) (c .before .before .before .before .starts-before .result) s (λ y. omega arith) (omega arith)
+    c .reaching .ensures ∙ reach-told (a .ranges) (a .count) (a .g) (c .before .before .pre .0) (c .before .begin-before .result) (c .before .begin-before .ensures)
 
 pub covering-spec : {M : Type 1} → statement M
 covering-spec =
-    tie.close
-    (tie.spec
-    add-starts-before
-    starts-before-requires
-    returns
-    sub-i
-    mul-r
-    array-copy-out-r
-    end-requires
-    returns-2
-    returns-3)
+    tie.close (tie.spec add-begin-before begin-before-requires reaching-requires returns)

@@ -1,76 +1,50 @@
-use Rattle.table.specs.Searching.{starts-count, no-ends, ends-before, ends-there}
+-- `table::ends_by` meets its contract: of the ranges that begin before the page only the last may end behind it.
 use Prim.Native.Nat.{_-_}
 use native.Mathlib.Omega.{arith}
 use borrow.Author.Needs.{needs}
+use Rattle.table.specs.Table.{ranged}
+use Rattle.table.specs.Searching.{starts-count, no-ends, ends-before, ends-there}
 use Rattle.table.proofs.ends_by.Statement.{statement}
 use Rattle.table.proofs.ends_by.Tie as tie
 
-starts-before-requires : tie.Need-starts-before-requires
-starts-before-requires c κs = search needs
+begin-before-requires : tie.Need-begin-before-requires
+begin-before-requires c κs = search needs
 
 returns : tie.Need-returns
 returns c =
-    let a = c .before .before .args in
-    let s = c .before .starts-before .ensures in
-    let t = c .if1 .taken in
-    no-ends (a .t1) (a .count) (c .before .before .pre) (a .a) (c .before .starts-before .result) s (omega arith)
-
-sub-i : tie.Need-sub-i
-sub-i c = search needs
-
-mul-r : tie.Need-mul-r
-mul-r c =
-    let a = c .before .before .args in
-    let s = c .before .starts-before .ensures in
-    let k = starts-count (a .t1) (a .count) (c .before .before .pre) (a .a) in
-    let f = c .before .before .pre .few in
-    let t = c .if1 .left in
-    omega (arith, k)
-
-array-copy-out-r : tie.Need-array-copy-out-r
-array-copy-out-r c =
-    let a = c .before .before .args in
-    let s = c .before .starts-before .ensures in
-    let k = starts-count (a .t1) (a .count) (c .before .before .pre) (a .a) in
-    let f = c .before .before .pre .few in
-    let t = c .if1 .left in
-    omega (arith, k)
+    let a = c .before .before .before .args in
+    let B = c .before .before .begin-before .ensures in
+    let b = c .before .before .begin-before .result in
+    no-ends (a .ranges) (a .count) (c .before .before .before .pre) (a .a) (b .count) (B .count) (omega (arith, c .if1 .taken))
 
 end-requires : tie.Need-end-requires
 end-requires c κs =
-    let a = c .before .before .before .args in
-    let s = c .before .before .starts-before .ensures in
-    let k = starts-count (a .t1) (a .count) (c .before .before .before .pre) (a .a) in
-    let t = c .before .if1 .left in
-    c .before .before .before .pre .small (c .before .before .starts-before .result - 1) (omega (arith, k))
+    let a = c .before .before .before .before .args in
+    let B = c .before .before .before .begin-before .ensures in
+    let b = c .before .before .before .begin-before .result in
+    rw (B .last (omega (arith, c .before .if1 .left))) (c .before .before .before .before .pre .small (b .count - 1) (omega (arith, B .count, starts-count (a .ranges) (a .count) (c .before .before .before .before .pre) (a .a), c .before .if1 .left)))
+
+sub-result : tie.Need-sub-result
+sub-result c = search needs
 
 returns-2 : tie.Need-returns-2
 returns-2 c =
-    let a = c .before .before .before .before .before .args in
-    let s = c .before .before .before .before .starts-before .ensures in
-    let z = c .before .before .before .if1 .left in
-    let e = c .before .end .ensures in
-    let t = c .if2 .taken in
-    ends-before (a .t1) (a .count) (c .before .before .before .before .before .pre) (a .a) (c .before .before .before .before .starts-before .result) s (λ y. omega arith) (omega arith)
+    let a = c .before .before .before .before .before .before .before .args in
+    let B = c .before .before .before .before .before .before .begin-before .ensures in
+    let b = c .before .before .before .before .before .before .begin-before .result in
+    let q = B .last (omega (arith, c .before .before .before .before .if1 .left)) in
+    let e = rw q at (c .before .before .end .ensures) in
+    ends-before (a .ranges) (a .count) (c .before .before .before .before .before .before .before .pre) (a .a) (b .count) (B .count) (λ y. omega (arith, c .before .before .before .before .if1 .left)) (omega (arith, e, c .before .if2 .taken))
 
 returns-3 : tie.Need-returns-3
 returns-3 c =
-    let a = c .before .before .before .before .before .args in
-    let s = c .before .before .before .before .starts-before .ensures in
-    let z = c .before .before .before .if1 .left in
-    let e = c .before .end .ensures in
-    let t = c .if2 .left in
-    ends-there (a .t1) (a .count) (c .before .before .before .before .before .pre) (a .a) (c .before .before .before .before .starts-before .result) s (λ y. omega arith) (omega arith)
+    let a = c .before .before .before .before .before .before .args in
+    let B = c .before .before .before .before .before .begin-before .ensures in
+    let b = c .before .before .before .before .before .begin-before .result in
+    let q = B .last (omega (arith, c .before .before .before .if1 .left)) in
+    let e = rw q at (c .before .end .ensures) in
+    ends-there (a .ranges) (a .count) (c .before .before .before .before .before .before .pre) (a .a) (b .count) (B .count) (λ y. omega (arith, c .before .before .before .if1 .left)) (omega (arith, e, c .if2 .left))
 
 pub ends-by-spec : {M : Type 1} → statement M
 ends-by-spec =
-    tie.close
-    (tie.spec
-    starts-before-requires
-    returns
-    sub-i
-    mul-r
-    array-copy-out-r
-    end-requires
-    returns-2
-    returns-3)
+    tie.close (tie.spec begin-before-requires returns end-requires sub-result returns-2 returns-3)
