@@ -1,0 +1,4 @@
+pub mod Fields
+pub mod Did
+pub mod Text
+pub mod Examples
