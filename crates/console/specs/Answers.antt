@@ -1,7 +1,7 @@
 -- LINES ANSWERED, one after another, and a part of the input done: which lines were answered, and what is left.
 use mathlib.Core.Path.{_≡_, refl, ap, subst, sym, _∙_}
 use mathlib.Core.List.{List, [], _∷_, _++_, append-assoc, append-nil}
-use Prim.Native.Nat.{ℕ, suc, _+_, _-_, _≤_, _<_, min}
+use Prim.Native.Nat.{ℕ, zero, suc, _+_, _-_, _≤_, _<_, min}
 use native.Mathlib.Nat.{sub-zero}
 use native.Mathlib.Omega.{arith}
 use lib.ListN.{length, take, drop, length-drop, drop-of-length-le}
@@ -10,7 +10,7 @@ use Rattle.bytes.specs.Bytes.{indexOf, slice}
 use Rattle.store.specs.declared.Store.{Store}
 use Rattle.console.specs.Buffers.{take-least}
 use Rattle.lines.specs.Did.{LineDid}
-use Rattle.console.specs.Lines.{feed, cut, ended, underway, last, linesOf, ended-next, underway-next, ended-none, underway-none, ended-same, underway-same, ended-append, underway-append, cut-cut}
+use Rattle.console.specs.Lines.{feed, cut, ended, underway, last, ended-next, underway-next, ended-none, underway-none, cut-cut}
 
 -- ONE LINE, as `lines::answer` promises: line, store and pool before, digits printed, store and pool after
 abbrev pub Said : List ℕ → Store → List ℕ → List ℕ → Store → List ℕ → Type 0
@@ -151,28 +151,12 @@ upto-all {s = s} {t = t} {x = x} {h = h} {l = l} {y = y} {g = g} a U b =
     let E : Done s x h l t y g [] (U .printed) = subst (λ r. Done s x h l t y g r (U .printed)) (drop-of-length-le l {i = a} b) (U .part) in
     record { printed = U .printed; run = done-all E; held = E .going }
 
--- ---- THE WHOLE INPUT, in whatever parts it comes
+-- ---- the end of the input: what is held, the first n bytes of l, is the last line, where there are any
 
-pub fed-append : {s t u : Store} {x h c y g d z k : List ℕ} → Fed s x h c t y g → Fed t y g d u z k → Fed s x h (c ++ d) u z k
-fed-append {s = s} {u = u} {x = x} {h = h} {c = c} {g = g} {d = d} {z = z} F G =
-    let e : ended (underway h c) d ≡ ended g d = ap (λ l. ended l d) (F .held) ∙ ended-same (cut g) g d (cut-cut 513 g) in
-    let f : underway (underway h c) d ≡ underway g d = ap (λ l. underway l d) (F .held) ∙ underway-same (cut g) g d (cut-cut 513 g) in
-    record {
-      printed = F .printed ++ G .printed;
-      run = subst (λ l. Answers s x l (F .printed ++ G .printed) u z) (ap (λ l. ended h c ++ l) (sym e) ∙ sym (ended-append h c d)) (answers-append (F .run) (G .run));
-      held = underway-append h c d ∙ f ∙ G .held;
-    }
+pub last-none : (l : List ℕ) (n : ℕ) (s : Store) (x : List ℕ) → n ≡ 0 → Answers s x (last (take n l)) [] s x
+last-none l n s x e = subst (λ k. Answers s x (last (take k l)) [] s x) (sym e) nothing
 
--- nothing is held at the end
-pub input-ended : {s t : Store} {x c y : List ℕ} (F : Fed s x [] c t y []) → Answers s x (linesOf c) (F .printed) t y
-unfolding linesOf
-input-ended {s = s} {t = t} {x = x} {c = c} {y = y} F =
-    subst (λ l. Answers s x l (F .printed) t y) (sym (ap (λ w. ended [] c ++ last w) (F .held) ∙ append-nil (ended [] c))) (F .run)
-
--- the last line feed is missing: what is held is answered too
-pub input-left : {s t u : Store} {x c y g z p : List ℕ} (b : ℕ) (F : Fed s x [] c t y (b ∷ g)) → length (b ∷ g) ≤ 513 → Spoke (b ∷ g) t y (F .printed) u z p
-    → Answers s x (linesOf c) p u z
-unfolding linesOf
-input-left {s = s} {u = u} {x = x} {c = c} {g = g} {z = z} {p = p} b F h S =
-    let e : underway [] c ≡ b ∷ g = F .held ∙ take-all 513 (b ∷ g) h in
-    subst (λ l. Answers s x l p u z) (sym (ap (λ w. ended [] c ++ last w) e)) (next-run (F .run) S)
+pub last-some : (l : List ℕ) (n : ℕ) (s t : Store) (x y p : List ℕ) → 0 < n → n ≤ length l → Spoke (take n l) s x [] t y p → Answers s x (last (take n l)) p t y
+last-some l zero s t x y p h k S = absurd (omega arith)
+last-some [] (suc n) s t x y p h k S = absurd (omega arith)
+last-some (b ∷ l) (suc n) s t x y p h k S = next-run nothing S

@@ -2,7 +2,7 @@
 -- bytes: a longer one has over 512 digits or another character, whatever follows.
 use mathlib.Core.Path.{_≡_, refl, ap, ap₂, sym, _∙_}
 use mathlib.Core.Bool.{Bool, true, false}
-use mathlib.Core.List.{List, [], _∷_, _++_, map, append-assoc, append-nil}
+use mathlib.Core.List.{List, [], _∷_, _++_, append-assoc, append-nil}
 use Prim.Native.Nat.{ℕ, zero, suc, _≤_, _<_}
 use native.Mathlib.Nat.{not-suc-le-zero}
 use native.Mathlib.Omega.{arith}
@@ -28,26 +28,12 @@ unfoldable pub underway : List ℕ → List ℕ → List ℕ
 underway h [] = cut h
 underway h (x ∷ c) = pick (eqb x feed) (underway [] c) (underway (h ++ (x ∷ [])) c)
 
--- the lines of the whole input: where the last line feed is missing, the line under way is one too
+-- at the end of the input: where the last line feed is missing, the line under way is one too
 abbrev pub last : List ℕ → List (List ℕ)
 last [] = []
 last (x ∷ l) = (x ∷ l) ∷ []
 
-unfoldable pub linesOf : List ℕ → List (List ℕ)
-linesOf c = ended [] c ++ last (underway [] c)
-
--- ---- the lines with all their bytes: what is kept of them is cut, and a definition that says the same of every line over 512 bytes does not see it
-
-unfoldable pub uncut : List ℕ → List ℕ → List (List ℕ)
-uncut h [] = []
-uncut h (x ∷ c) = pick (eqb x feed) (h ∷ uncut [] c) (uncut (h ++ (x ∷ [])) c)
-
-pub ended-uncut : (h c : List ℕ) → ended h c ≡ map cut (uncut h c)
-unfolding ended uncut
-ended-uncut h [] = refl
-ended-uncut h (x ∷ c) = by-test (eqb x feed)
-    (λ t. rw t (ap (λ l. cut h ∷ l) (ended-uncut [] c)))
-    (λ t. rw t (ended-uncut (h ++ (x ∷ [])) c))
+-- ---- a definition that says the same of every line over 512 bytes does not see the cut
 
 pub cut-unseen : {A : Type 0} (f : List ℕ → A) (z : A) → ((l : List ℕ) → 512 < length l → f l ≡ z) → (l : List ℕ) → f (cut l) ≡ f l
 cut-unseen f z h l = by-lt 512 (length l)

@@ -6,8 +6,8 @@ ghost use mathlib.Core.Path.{_≡_};
 ghost use mathlib.Core.List.{[], _∷_, _++_};
 ghost use Prim.Native.Nat.{_+_, _≤_, _<_, min};
 ghost use lib.ListN.{length, take, drop};
-ghost use Rattle.console.specs.Lines.{feed, cut};
-ghost use Rattle.console.specs.Answers.{Spoke, Done, Fed};
+ghost use Rattle.console.specs.Lines.{feed, cut, last};
+ghost use Rattle.console.specs.Answers.{Answers, Spoke, Done, Fed};
 
 // What is kept of a line under way, and how much output is gathered.
 const HELD: usize = 513;
@@ -196,14 +196,25 @@ fn answer_chunk(
     }
 }
 
-// "Lines end in a line feed; the last one's may be missing."
-fn answer_last(s: Store, pool: &mut [u8], held: &mut [u8; HELD], n: usize, out: &mut [u8; GATHERED])
+// "Lines end in a line feed; the last one's may be missing." At the end of the input, the n bytes held are the last line, where there are any.
+fn answer_last(
+    s: Store,
+    pool: &mut [u8],
+    held: &mut [u8; HELD],
+    n: usize,
+    out: &mut [u8; GATHERED],
+) -> Spoken
     requires { ⌜ n ≤ 513 ⌝ }
+    ensures { λ r. ⌜ r .filled ≤ 65536 ⌝ }
+    ensures { λ r. ⌜ Answers s (now (pool .entry)) (last (take n (now (held .entry)))) (take (r .filled) (now (out .exit))) (r .store) (now (pool .exit)) ⌝ }
 {
-    if 0 < n {
-        let r = speak(s, pool, held, n, out, 0);
-        write_out(out, r.filled);
+    if n == 0 {
+        return Spoken {
+            filled: 0,
+            store: s,
+        };
     }
+    speak(s, pool, held, n, out, 0)
 }
 
 // Chunk after chunk. A read that fails counts as the end of the input; a write that fails ends the work. A proved loop has to end, and nothing says that
@@ -222,7 +233,8 @@ fn answer_all(
         let got = libc::read(libc::STDIN_FILENO, chunk);
         let k = io::count(got, chunk);
         if k == 0 {
-            answer_last(t, pool, held, n, out);
+            let r = answer_last(t, pool, held, n, out);
+            write_out(out, r.filled);
             return;
         }
         let r = answer_chunk(t, pool, held, n, &chunk[0..k], out);

@@ -24,6 +24,9 @@ count-requires c κs = search needs
 answer-last-requires : tie.Need-answer-last-requires Inv-loop μ-loop
 answer-last-requires c κs = search needs
 
+write-out-requires : tie.Need-write-out-requires Inv-loop μ-loop
+write-out-requires c κs = search needs
+
 same-length : tie.Need-same-length Inv-loop μ-loop
 same-length c = search needs
 
@@ -82,6 +85,7 @@ answer-all-spec =
     read-requires
     count-requires
     answer-last-requires
+    write-out-requires
     same-length
     same-length-2
     returns

@@ -1,0 +1,3 @@
+pub mod Input
+pub mod ConsoleRuns
+pub mod Examples
