@@ -107,6 +107,12 @@ fn alone(seeds: u64) {
     println!("{}", tally.text());
 }
 
+/// A program's input and what it must write.
+fn keep(folder: &str, (lists, answers): (String, String)) {
+    std::fs::write(format!("{folder}/stdin"), lists).unwrap();
+    std::fs::write(format!("{folder}/stdout"), answers).unwrap();
+}
+
 fn done(same: bool) {
     if !same {
         std::process::exit(1);
@@ -125,10 +131,11 @@ fn main() {
         ["run"] => run(false),
         ["run", "mended"] => run(true),
         ["differences", program] => done(differences::show(program)),
-        ["record", folder] => {
-            let (lists, answers) = record::record();
-            std::fs::write(format!("{folder}/stdin"), lists).unwrap();
-            std::fs::write(format!("{folder}/stdout"), answers).unwrap();
+        ["record", folder] => keep(folder, record::record()),
+        ["record", folder, "random", first, n] => {
+            let first: u64 = first.parse().unwrap();
+            let seeds = first..first + n.parse::<u64>().unwrap();
+            keep(folder, record::answers_to(lists::exhaustive(1).chain(seeds.map(lists::random))))
         }
         ["marks", depth] => marks(depth.parse().unwrap()),
         ["alone", n] => alone(n.parse().unwrap()),

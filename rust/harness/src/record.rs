@@ -106,10 +106,15 @@ fn chosen() -> Vec<List> {
     all
 }
 
-/// The lists and the answers.
+/// The sample that the repository keeps.
 pub fn record() -> (String, String) {
+    answers_to(chosen())
+}
+
+/// Lists, and the answers to them.
+pub fn answers_to(all: impl IntoIterator<Item = List>) -> (String, String) {
     let (mut lists, mut answers) = (String::new(), Vec::new());
-    for list in chosen() {
+    for list in all {
         lists += &list.text();
         Said { answer: vec![0], view: View::default() }.write(&mut answers);
         let mut alone = Alone::new(list.frames);
