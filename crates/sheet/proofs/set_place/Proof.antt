@@ -1,0 +1,44 @@
+use lib.ListN.{length-set}
+-- `sheet::set_place` meets its contract.
+use Rattle.sheet.specs.Edits.{place-set}
+use native.Mathlib.Omega.{arith}
+use borrow.Author.Needs.{needs}
+use Rattle.sheet.proofs.set_place.Statement.{statement}
+use Rattle.sheet.proofs.set_place.Tie as tie
+
+cast-sheet : tie.Need-cast-sheet
+cast-sheet c = search needs
+
+mul-sheet : tie.Need-mul-sheet
+mul-sheet c = search needs
+
+cast-sheet-2 : tie.Need-cast-sheet-2
+cast-sheet-2 c = search needs
+
+add-sheet : tie.Need-add-sheet
+add-sheet c = search needs
+
+add-sheet-2 : tie.Need-add-sheet-2
+add-sheet-2 c = search needs
+
+mul-sheet-2 : tie.Need-mul-sheet-2
+mul-sheet-2 c = search needs
+
+element-write-sheet : tie.Need-element-write-sheet
+element-write-sheet c = search needs
+
+returns : tie.Need-returns
+returns c = (place-set _ (search needs) _ _ (search needs) (search needs) (search needs), simp length-set (search needs))
+
+pub set-place-spec : {M : Type 1} → statement M
+set-place-spec =
+    tie.close
+    (tie.spec
+    cast-sheet
+    mul-sheet
+    cast-sheet-2
+    add-sheet
+    add-sheet-2
+    mul-sheet-2
+    element-write-sheet
+    returns)
