@@ -17,7 +17,7 @@ use Rattle.lists.specs.Listed.{listed, getD-listed, length-listed, listed-ext, 
 use Rattle.table.specs.Table.{zeroRange, numberOf}
 use Rattle.places.specs.Places.{nowhere, place, placeAt}
 use Rattle.store.specs.Sound.{Sized}
-use Rattle.sheet.specs.Sheet.{backingOf, lineOf, rangeAt, rangeMade, spotted, storeOf, tagOf, withCount, withPlace, withRange, withWord, wordAt}
+use Rattle.sheet.specs.Sheet.{backingOf, lineOf, rangeAt, rangeMade, spotted, storeOf, tagOf, withCount, withFrames, withLive, withPlace, withRange, withWord, wordAt}
 
 -- ---- read
 module _ (w : List ℕ) where
@@ -182,6 +182,38 @@ module _ (w : List ℕ) (long : length w ≡ 2579) where
 
       same : (k : ℕ) → (k ≡ 2578 → ⊥) → getD v k 0 ≡ getD w k 0
       same k n = getD-set-other w 2578 k x 0 n
+
+  pub frames-set : (x : ℕ) → storeOf (set w 2576 x) ≡ withFrames x (storeOf w)
+  frames-set x =
+      let a = ranges-kept w v (λ k l. same k (λ e. omega arith)) in
+      let b = places-kept w v (λ k l m. same k (λ e. omega arith)) in
+      let f = free-kept w v (λ k l m. same k (λ e. omega arith)) in
+      let c = sym (frames-read v) ∙ getD-set-same w 2576 x 0 (omega arith) in
+      let d = live-kept w v (same 2577 (λ e. omega arith)) in
+      let n = count-kept w v (same 2578 (λ e. omega arith)) in
+      λ j. record { frames = c j; live = d j; count = n j; ranges = a j; places = b j; free = f j }
+    where
+      v : List ℕ
+      v = set w 2576 x
+
+      same : (k : ℕ) → (k ≡ 2576 → ⊥) → getD v k 0 ≡ getD w k 0
+      same k n = getD-set-other w 2576 k x 0 n
+
+  pub live-set : (x : ℕ) → x < 4294967296 → storeOf (set w 2577 x) ≡ withLive x (storeOf w)
+  live-set x m =
+      let a = ranges-kept w v (λ k l. same k (λ e. omega arith)) in
+      let b = places-kept w v (λ k l m. same k (λ e. omega arith)) in
+      let f = free-kept w v (λ k l m. same k (λ e. omega arith)) in
+      let c = frames-kept w v (same 2576 (λ e. omega arith)) in
+      let d = sym (live-read v) ∙ ap (λ (y : ℕ). y % 4294967296) (getD-set-same w 2577 x 0 (omega arith)) ∙ mod-eq-of-lt m in
+      let n = count-kept w v (same 2578 (λ e. omega arith)) in
+      λ j. record { frames = c j; live = d j; count = n j; ranges = a j; places = b j; free = f j }
+    where
+      v : List ℕ
+      v = set w 2577 x
+
+      same : (k : ℕ) → (k ≡ 2577 → ⊥) → getD v k 0 ≡ getD w k 0
+      same k n = getD-set-other w 2577 k x 0 n
 
   pub range-set : (i : ℕ) (r : PageRange) → i < 512 → Narrow r
       → storeOf (set (set (set w i (lineOf r)) (512 + i) (r .offset * 4294967296 + r .length)) (1024 + i) (tagOf (r .backing))) ≡ withRange i r (storeOf w)
