@@ -1,12 +1,12 @@
 -- `rows::begin_before` meets its contract, as `table::begin_before`.
 use borrow.Author.Needs.{needs}
 use native.Mathlib.Omega.{arith}
-use mathlib.Core.Path.{_≡_, refl, ap, sym, _∙_}
-use Prim.Native.Nat.{ℕ, _+_, _-_, _*_, _/_, _≤_, _<_}
+use mathlib.Core.Path.{_≡_, ap, _∙_}
+use Prim.Native.Nat.{ℕ, _+_, _-_, _/_, _≤_, _<_}
 use Rattle.sheet.specs.Sheet.{storeOf, rangeAt}
-use Rattle.table.specs.Searching.{BegunIs, low-more, high-more, starts-found}
+use Rattle.table.specs.Searching.{low-more, high-more, starts-found}
 use borrow.Author.Count.{below-none}
-use Rattle.table.specs.Table.{ranged, zeroRange, Small}
+use Rattle.table.specs.Table.{ranged, zeroRange}
 use Rattle.ranges.specs.Range.{from}
 use lib.ListN.{getD}
 use Rattle.rows.proofs.begin_before.Statement.{statement}

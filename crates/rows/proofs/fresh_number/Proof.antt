@@ -1,10 +1,9 @@
 -- `rows::fresh_number` meets its contract: the numbers below n are held.
 use borrow.Author.Needs.{needs}
 use native.Mathlib.Omega.{arith}
-use mathlib.Core.Path.{_≡_, refl, ap, sym, _∙_}
-use Prim.Native.Nat.{ℕ, _+_, _-_, _*_, _/_, _≤_, _<_}
-use Rattle.sheet.specs.Sheet.{storeOf, rangeAt}
-use lib.ListN.{getD, length, replicate}
+use mathlib.Core.Path.{_≡_, ap, sym, _∙_}
+use Prim.Native.Nat.{_+_, _-_, _≤_}
+use Rattle.sheet.specs.Sheet.{storeOf}
 use Rattle.sheet.specs.Edits.{storeOf-sized}
 use Rattle.store.specs.Abs.{used}
 use Rattle.ranges.specs.Table.{fresh, freshFrom}

@@ -1,7 +1,8 @@
+-- `rows::has_window` meets its contract: no range looked at so far has the index in its window.
 use borrow.Author.Needs.{needs}
 use native.Mathlib.Omega.{arith}
 use mathlib.Core.Path.{_≡_, refl, ap, sym, _∙_}
-use Prim.Native.Nat.{ℕ, _+_, _-_, _*_, _/_, _≤_, _<_}
+use Prim.Native.Nat.{_-_, _≤_}
 use Rattle.sheet.specs.Sheet.{storeOf, rangeAt}
 use mathlib.Core.Bool.{true, false}
 use Rattle.sheet.specs.Edits.{storeOf-sized}

@@ -1,7 +1,8 @@
+-- `rows::holder_count` meets its contract: those counted and those left are all holders.
 use borrow.Author.Needs.{needs}
 use native.Mathlib.Omega.{arith}
-use mathlib.Core.Path.{_≡_, refl, ap, sym, _∙_}
-use Prim.Native.Nat.{ℕ, _+_, _-_, _*_, _/_, _≤_, _<_}
+use mathlib.Core.Path.{_≡_, ap, _∙_}
+use Prim.Native.Nat.{_+_, _-_, _≤_}
 use Rattle.sheet.specs.Sheet.{storeOf, rangeAt}
 use Rattle.sheet.specs.Edits.{storeOf-sized}
 use Rattle.table.specs.Holding.{left, holders-hit, holders-miss, holders-end}

@@ -1,8 +1,8 @@
 -- `rows::mark` meets its contract: from the last range to the first, each marks its number.
 use borrow.Author.Needs.{needs}
 use native.Mathlib.Omega.{arith}
-use mathlib.Core.Path.{_≡_, refl, ap, sym, _∙_}
-use Prim.Native.Nat.{ℕ, _+_, _-_, _*_, _/_, _≤_, _<_}
+use mathlib.Core.Path.{_≡_, ap, _∙_}
+use Prim.Native.Nat.{_-_, _≤_}
 use Rattle.sheet.specs.Sheet.{storeOf, rangeAt}
 use lib.ListN.{length, length-set}
 use Rattle.sheet.specs.Edits.{storeOf-sized}
