@@ -11,12 +11,6 @@ use Rattle.ranges.specs.Range.{from}
 use lib.ListN.{getD}
 use Rattle.rows.proofs.begin_before.Statement.{statement}
 use Rattle.rows.proofs.begin_before.Tie as tie
-use Rattle.rows.proofs.begin_before.Reads as reads
-use Rattle.rows.proofs.begin_before.Lts as lts
-use Rattle.sheet.proofs.count.Reads as count-reads
-use Rattle.sheet.proofs.range.Reads as range-reads
-use Rattle.table.proofs.PageRange.first.Reads as first-reads
-use Rattle.table.proofs.zero_range.Reads as zero-range-reads
 
 abbrev Inv-loop : tie.InvT-loop
 Inv-loop sheet g n lo₀ hi₀ lo hi = (lo ≤ hi) × (hi ≤ storeOf sheet .count) × ((k : ℕ) → k < lo → from (ranged (rangeAt (storeOf sheet) k)) < g)

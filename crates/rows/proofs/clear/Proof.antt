@@ -12,10 +12,6 @@ use Rattle.table.specs.declared.PageRange.{PageRange}
 use Rattle.rows.specs.Edit.{rows-none, row-zero}
 use Rattle.rows.proofs.clear.Statement.{statement}
 use Rattle.rows.proofs.clear.Tie as tie
-use Rattle.rows.proofs.clear.Reads as reads
-use Rattle.rows.proofs.clear.Lts as lts
-use Rattle.sheet.proofs.set_range.Reads as set-range-reads
-use Rattle.table.proofs.zero_range.Reads as zero-range-reads
 
 abbrev Inv-loop : tie.InvT-loop
 Inv-loop sheet₀ at n z i₀ sheet i = (i ≤ n) × (length sheet ≡ 2579) × (storeOf sheet ≡ withRanges (paste (storeOf sheet₀ .ranges) at (replicate n zeroRange) i) (storeOf sheet₀))

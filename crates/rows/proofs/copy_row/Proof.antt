@@ -7,8 +7,6 @@ use Rattle.sheet.specs.Edits.{range-read, row-set}
 use Rattle.table.specs.declared.PageRange.{PageRange}
 use Rattle.rows.proofs.copy_row.Statement.{statement}
 use Rattle.rows.proofs.copy_row.Tie as tie
-use Rattle.rows.proofs.copy_row.Reads as reads
-use Rattle.rows.proofs.copy_row.Lts as lts
 
 mul-first : tie.Need-mul-first
 mul-first c = search needs

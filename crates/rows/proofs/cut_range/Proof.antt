@@ -5,14 +5,6 @@ use Rattle.sheet.specs.Sheet.{storeOf}
 use Rattle.rows.specs.Made.{cut-fits, cut-nothing, cut-over, far-fit, far-small, met-within, near-fit, near-small}
 use Rattle.rows.proofs.cut_range.Statement.{statement}
 use Rattle.rows.proofs.cut_range.Tie as tie
-use Rattle.rows.proofs.cut_range.Reads as reads
-use Rattle.rows.proofs.cut_range.Lts as lts
-use Rattle.rows.proofs.ends_by.Reads as ends-by-reads
-use Rattle.rows.proofs.replace.Reads as replace-reads
-use Rattle.rows.proofs.starts_before.Reads as starts-before-reads
-use Rattle.sheet.proofs.range.Reads as range-reads
-use Rattle.table.proofs.back_of.Reads as back-of-reads
-use Rattle.table.proofs.front_of.Reads as front-of-reads
 
 ends-by-requires : tie.Need-ends-by-requires
 ends-by-requires c κs = search needs

@@ -5,9 +5,6 @@ use Rattle.sheet.specs.Edits.{storeOf-sized}
 use Rattle.rows.specs.Made.{lay-none, lay-fits, lay-one}
 use Rattle.rows.proofs.lay.Statement.{statement}
 use Rattle.rows.proofs.lay.Tie as tie
-use Rattle.rows.proofs.lay.Reads as reads
-use Rattle.rows.proofs.lay.Lts as lts
-use Rattle.sheet.proofs.set_range.Reads as set-range-reads
 
 enum-known-q : tie.Need-enum-known-q
 enum-known-q c = search needs

@@ -8,16 +8,6 @@ use Rattle.table.specs.declared.Piece.the-variants.{Part}
 use Rattle.rows.specs.Made.{far-fit, far-small, made-length, met-within, near-fit, near-small, one-row, put-between, put-over}
 use Rattle.rows.proofs.put_range.Statement.{statement}
 use Rattle.rows.proofs.put_range.Tie as tie
-use Rattle.rows.proofs.put_range.Reads as reads
-use Rattle.rows.proofs.put_range.Lts as lts
-use Rattle.rows.proofs.ends_by.Reads as ends-by-reads
-use Rattle.rows.proofs.replace.Reads as replace-reads
-use Rattle.rows.proofs.starts_before.Reads as starts-before-reads
-use Rattle.sheet.proofs.range.Reads as range-reads
-use Rattle.table.proofs.PageRange.end.Reads as end-reads
-use Rattle.table.proofs.PageRange.first.Reads as first-reads
-use Rattle.table.proofs.back_of.Reads as back-of-reads
-use Rattle.table.proofs.front_of.Reads as front-of-reads
 
 first-requires : tie.Need-first-requires
 first-requires c κs = search needs

@@ -7,11 +7,6 @@ use Rattle.rows.specs.Edit.{rowsOf}
 use Rattle.rows.specs.Made.{made-length, replaced}
 use Rattle.rows.proofs.replace.Statement.{statement}
 use Rattle.rows.proofs.replace.Tie as tie
-use Rattle.rows.proofs.replace.Reads as reads
-use Rattle.rows.proofs.replace.Lts as lts
-use Rattle.rows.proofs.lay.Reads as lay-reads
-use Rattle.rows.proofs.shift.Reads as shift-reads
-use Rattle.rows.proofs.width.Reads as width-reads
 
 width-requires : tie.Need-width-requires
 width-requires c κs = search needs

@@ -7,13 +7,6 @@ use Rattle.sheet.specs.Edits.{storeOf-sized}
 use Rattle.rows.specs.Edit.{shifted-none, shifted-up, shifted-down}
 use Rattle.rows.proofs.shift.Statement.{statement}
 use Rattle.rows.proofs.shift.Tie as tie
-use Rattle.rows.proofs.shift.Reads as reads
-use Rattle.rows.proofs.shift.Lts as lts
-use Rattle.rows.proofs.clear.Reads as clear-reads
-use Rattle.rows.proofs.shift_down.Reads as shift-down-reads
-use Rattle.rows.proofs.shift_up.Reads as shift-up-reads
-use Rattle.sheet.proofs.count.Reads as count-reads
-use Rattle.sheet.proofs.set_count.Reads as set-count-reads
 
 count-requires : tie.Need-count-requires
 count-requires c κs = search needs
