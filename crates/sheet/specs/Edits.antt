@@ -183,6 +183,7 @@ module _ (w : List ℕ) (long : length w ≡ 2579) where
       same : (k : ℕ) → (k ≡ 2578 → ⊥) → getD v k 0 ≡ getD w k 0
       same k n = getD-set-other w 2578 k x 0 n
 
+<<<<<<< HEAD
   pub frames-set : (x : ℕ) → storeOf (set w 2576 x) ≡ withFrames x (storeOf w)
   frames-set x =
       let a = ranges-kept w v (λ k l. same k (λ e. omega arith)) in
@@ -218,23 +219,19 @@ module _ (w : List ℕ) (long : length w ≡ 2579) where
   pub range-set : (i : ℕ) (r : PageRange) → i < 512 → Narrow r
       → storeOf (set (set (set w i (lineOf r)) (512 + i) (r .offset * 4294967296 + r .length)) (1024 + i) (tagOf (r .backing))) ≡ withRange i r (storeOf w)
   range-set i r h N =
+=======
+  -- the three numbers of a range set, whatever they are
+  pub row-set : (i x y z : ℕ) → i < 512 → storeOf (set (set (set w i x) (512 + i) y) (1024 + i) z) ≡ withRange i (rangeMade x y z) (storeOf w)
+  row-set i x y z h =
+>>>>>>> 017a6d0274ca42d8a72019d82b79cfa141d0733d
       let b = places-kept w v (λ k l m. same k (λ e. omega arith) (λ e. omega arith) (λ e. omega arith)) in
       let f = free-kept w v (λ k l m. same k (λ e. omega arith) (λ e. omega arith) (λ e. omega arith)) in
       let c = frames-kept w v (same 2576 (λ e. omega arith) (λ e. omega arith) (λ e. omega arith)) in
       let d = live-kept w v (same 2577 (λ e. omega arith) (λ e. omega arith) (λ e. omega arith)) in
       let n = count-kept w v (same 2578 (λ e. omega arith) (λ e. omega arith) (λ e. omega arith)) in
-      let q = range-changed w v i x y z first second third others ∙ ap (λ (y : PageRange). set (storeOf w .ranges) i y) (range-made r N) in
+      let q = range-changed w v i x y z first second third others in
       λ j. record { frames = c j; live = d j; count = n j; ranges = q j; places = b j; free = f j }
     where
-      x : ℕ
-      x = lineOf r
-
-      y : ℕ
-      y = r .offset * 4294967296 + r .length
-
-      z : ℕ
-      z = tagOf (r .backing)
-
       v : List ℕ
       v = set (set (set w i x) (512 + i) y) (1024 + i) z
 
@@ -263,3 +260,8 @@ module _ (w : List ℕ) (long : length w ≡ 2579) where
         same (512 + k) (λ e. omega arith) (λ e. n (omega arith)) (λ e. omega arith),
         same (1024 + k) (λ e. omega arith) (λ e. omega arith) (λ e. n (omega arith)),
       )
+
+  pub range-set : (i : ℕ) (r : PageRange) → i < 512 → Narrow r
+      → storeOf (set (set (set w i (lineOf r)) (512 + i) (r .offset * 4294967296 + r .length)) (1024 + i) (tagOf (r .backing))) ≡ withRange i r (storeOf w)
+  range-set i r h N =
+      row-set i (lineOf r) (r .offset * 4294967296 + r .length) (tagOf (r .backing)) h ∙ ap (λ (y : PageRange). withRange i y (storeOf w)) (range-made r N)
