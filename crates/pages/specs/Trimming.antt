@@ -3,7 +3,7 @@ use mathlib.Core.Path.{_≡_, refl, ap, ap₂, sym, _∙_}
 use mathlib.Core.Bool.{true, false, false≢true}
 use mathlib.Core.Option.{some}
 use mathlib.Core.Logic.{_⊎_, inl, inr, ⊎-elim}
-use mathlib.Core.List.{List, [], _∷_, _++_, map}
+use mathlib.Core.List.{List, [], _∷_, _++_, map, List·Memᴰ}
 use Prim.Native.Nat.{ℕ, zero, suc, _+_, _-_, _≤_, _<_}
 use native.Mathlib.Omega.{arith}
 use lib.ListN.{length, take, drop, set, length-set}
@@ -11,12 +11,12 @@ use lib.Seq.{getD-set-other, getD-set-same, ext-getD}
 use borrow.Author.Tests.{eq-eqb, lt-ltb}
 use Rattle.places.specs.declared.Place.{Place}
 use Rattle.lists.specs.Test.{by-eq, by-lt, by-test}
-use Rattle.ranges.specs.Range.{Range, Slot, line, from, upto, put, slotIn, slotAt, Rising}
+use Rattle.ranges.specs.Range.{Range, Slot, from, upto, put, slotIn, slotAt, Rising}
 use Rattle.ranges.specs.Table.{named}
-use Rattle.ranges.specs.Find.{In, named-in, slot-mem, slot-named}
-use Rattle.ranges.specs.Over.{put-hit, put-other}
+use Rattle.ranges.specs.Find.{In, named-in, named-mem, slot-mem, slot-named}
+use Rattle.ranges.specs.Over.{Rest, put-hit, put-mem, put-other}
 use Rattle.trim.specs.Trim.{keptPlace}
-use Rattle.places.specs.Places.{place, nowhere, placeAt, standsAt, emptiedAt}
+use Rattle.places.specs.Places.{nowhere, placeAt, standsAt, emptiedAt}
 use Rattle.store.specs.Edits.{slot, trimmed, vacated, mapped-at, stands-place, Only}
 use Rattle.store.specs.Idle.{mapped-beyond}
 use Rattle.store.specs.Settle.{vacated-length}
@@ -46,6 +46,22 @@ put-named n g rs R K b i e =
         (λ u. put-hit n h rs l u ∙ ap some (sym (K h (slot b i) l u ne S)))
         (λ u. put-other n h rs (inr u) ∙ S))
 
+-- a range put in whose window lies in that of a range of the table names nothing new
+pub put-names : (n r : Range) (rs : List Range) → List·Memᴰ r rs → n .backing ≡ r .backing → r .offset ≤ n .offset → n .offset + n .len ≤ r .offset + r .len
+    → (b i : ℕ) → named b i (put n rs) ≡ true → named b i rs ≡ true
+put-names n r rs m e lo hi b i t = ⊎-elim
+    (λ (z : N .r ≡ n).
+    let o : N .r .offset ≡ n .offset = ap (λ k. k .offset) z in
+    let l : N .r .len ≡ n .len = ap (λ k. k .len) z in
+    named-mem b i rs r m (N .backing ∙ ap (λ k. k .backing) z ∙ e) (omega (arith, N .low)) (omega (arith, N .high)))
+    (λ (R : Rest n (N .r) rs).
+    let P = R .cut .piece in
+    named-mem b i rs (R .cut .r) (R .cut .mem) (N .backing ∙ P .backing) (omega (arith, N .low, P .first, P .shift)) (omega (arith, N .high, P .last, P .shift)))
+    (put-mem n (N .r) rs (N .mem))
+  where
+    N : In b i (put n rs)
+    N = named-in b i (put n rs) t
+
 -- ---- the first n places mapped
 
 pub front-ext : (h k : Place → Place) (n : ℕ) (ps : List Place) → ((f : ℕ) → f < n → h (placeAt ps f) ≡ k (placeAt ps f))
@@ -58,6 +74,13 @@ pub front-same : (h : Place → Place) (n : ℕ) (ps : List Place) → ((f : ℕ
 front-same h zero ps e = refl
 front-same h (suc n) [] e = refl
 front-same h (suc n) (p ∷ ps) e = ap₂ (λ q l. q ∷ l) (e 0 (omega arith)) (front-same h n ps (λ f l. e (suc f) (omega arith)))
+
+-- mapped twice, where the second map makes the same of what the first has made
+front-twice : (h k : Place → Place) (n : ℕ) (ps : List Place) → ((p : Place) → k (h p) ≡ k p)
+    → map k (take n (map h (take n ps) ++ drop n ps)) ++ drop n (map h (take n ps) ++ drop n ps) ≡ map k (take n ps) ++ drop n ps
+front-twice h k zero ps e = refl
+front-twice h k (suc n) [] e = refl
+front-twice h k (suc n) (p ∷ ps) e = ap₂ (λ q l. q ∷ l) (e p) (front-twice h k n ps e)
 
 -- ---- what stands at one place
 
@@ -138,3 +161,17 @@ pub vacated-still : (n c j b i : ℕ) (ps : List Place) → n ≤ length ps → 
     → (f : ℕ) → f < n → standsAt b i (placeAt (vacated n c j ps) f) ≡ false
 vacated-still n c j b i ps m e f l =
     ap (standsAt b i) (mapped-at (emptiedAt c j) n ps f m l) ∙ by-test (standsAt c j (placeAt ps f)) (λ t. rw t) (λ t. rw t (e f l))
+
+-- TRIMMED TWICE, by tables of which the second names nothing new, is trimmed once
+pub trimmed-twice : (n : ℕ) (rs rs′ : List Range) (ps : List Place) → ((b i : ℕ) → named b i rs′ ≡ true → named b i rs ≡ true)
+    → trimmed n rs′ (trimmed n rs ps) ≡ trimmed n rs′ ps
+trimmed-twice n rs rs′ ps h = front-twice (keptPlace rs) (keptPlace rs′) n ps each
+  where
+    each : (p : Place) → keptPlace rs′ (keptPlace rs p) ≡ keptPlace rs′ p
+    each p =
+        by-test (named (p .backing) (p .index) rs)
+        (λ t. rw t)
+        (λ t. rw t (kept-nowhere rs′ nowhere refl
+        ∙ by-test (named (p .backing) (p .index) rs′)
+        (λ u. absurd (false≢true (sym t ∙ h (p .backing) (p .index) u)))
+        (λ u. rw u)))
