@@ -123,6 +123,15 @@ module _ (s : Store) (x : List ℕ) (I : Inside s x) (o p : ℕ) where
 
 -- ---- THE LAW
 
+-- WHAT IS LEFT of the places once what leaves with the line's page g has left, by what is found: the page is uncovered; or it was at index j of backing c, and no
+-- frame stood there, or it is not the new place, index i of backing b, and the new table rs′ names it, or neither
+pub data Left (s : Store) (g : ℕ) (rs′ : List Range) (b i : ℕ) : List Place → Type 0 where
+  uncovered : slotAt g (rangesOf (used s)) ≡ none → Left s g rs′ b i (s .places)
+  absent : (c j : ℕ) → slotAt g (rangesOf (used s)) ≡ some (slot c j) → frameAt c j 0 (take (s .frames) (s .places)) ≡ Nothing → Left s g rs′ b i (s .places)
+  stays : (c j : ℕ) → slotAt g (rangesOf (used s)) ≡ some (slot c j) → (c ≡ b → j ≡ i → ⊥) → named c j rs′ ≡ true → Left s g rs′ b i (s .places)
+  goes : (c j k : ℕ) → slotAt g (rangesOf (used s)) ≡ some (slot c j) → ((c ≡ b) × (j ≡ i)) ⊎ (named c j rs′ ≡ false)
+      → frameAt c j 0 (take (s .frames) (s .places)) ≡ At k → Left s g rs′ b i (set (s .places) k nowhere)
+
 module _ (s : Store) (x : List ℕ) (I : Inside s x) where
   -- "Each vector entry lies in the window of some range that holds the vector."
   pub inside-kept : (f : ℕ) → f < s .frames → Kept (rangesOf (used s)) (placeAt (s .places) f)
@@ -225,3 +234,16 @@ module _ (s : Store) (x : List ℕ) (I : Inside s x) where
             (trimmed-all (s .frames) (rangesOf (used s)) rs′ (s .places) inside-kept
             (λ d k w. ⊎-elim (λ y. let z = only d k y in ap₂ (λ m i. named m i rs′) (z .0 ∙ u) (z .1 ∙ v) ∙ here) (λ y. y) (others d k w)))
             ∙ ap₂ (λ m i. seat (vacated (s .frames) m i (s .places))) (sym u) (sym v)
+
+      -- by what the code has found
+      pub left-settled : (ps : List Place) → Left s (line o p) rs′ b (q .index) ps → after ≡ set ps f (place b (q .index))
+      left-settled ps (uncovered z) = leaving-none z
+      left-settled ps (stays c j z ne t) = leaving-stays c j z ne t
+      left-settled ps (goes c j k z t v) =
+          ⊎-elim (λ (w : (c ≡ b) × (j ≡ q .index)). leaving-same c j z (w .0) (w .1)) (λ w. leaving-gone c j z w) t ∙ ap seat (vacated-found c j k v)
+      left-settled ps (absent c j z v) =
+          by-test (named c j rs′)
+          (λ t. by-eq c b
+          (λ m. by-eq j (q .index) (λ n. leaving-same c j z m n ∙ ap seat (vacated-missing c j v)) (λ n. leaving-stays c j z (λ _ w. n w) t))
+          (λ m. leaving-stays c j z (λ w _. m w) t))
+          (λ t. leaving-gone c j z t ∙ ap seat (vacated-missing c j v))
