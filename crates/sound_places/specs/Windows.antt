@@ -201,8 +201,11 @@ module _ (l : List PageRange) (ts xs : List ℕ) (n : ℕ) (m : n ≤ length l) 
 
   module _ (hs ns : List ℕ) (C : Chained ts n hs ns) where
     -- what the walk answers is what all windows answer
+    pub walk-named : (b i : ℕ) → named b i (rangesOf (take n l)) ≡ not (allBelow (outside ts xs b i) (getD hs (b % 1024) 0))
+    walk-named b i = rw (windows-told b i n (le-refl n), walk-windows ts xs hs ns n C b i .same)
+
     window-walked : (p : Place) → walked? ts xs hs p ≡ window? (rangesOf (take n l)) p
-    window-walked p = rw (windows-told (p .backing) (p .index) n (le-refl n), walk-windows ts xs hs ns n C (p .backing) (p .index) .same)
+    window-walked p = rw (walk-named (p .backing) (p .index))
 
     pub walks-windows : (ps : List Place) (k : ℕ) → allBelow (λ f. walked? ts xs hs (placeAt ps f)) k ≡ allBelow (λ f. window? (rangesOf (take n l)) (placeAt ps f)) k
     walks-windows ps k = λ j. allBelow (λ f. window-walked (placeAt ps f) j) k
