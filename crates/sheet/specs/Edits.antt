@@ -183,7 +183,6 @@ module _ (w : List ℕ) (long : length w ≡ 2579) where
       same : (k : ℕ) → (k ≡ 2578 → ⊥) → getD v k 0 ≡ getD w k 0
       same k n = getD-set-other w 2578 k x 0 n
 
-<<<<<<< HEAD
   pub frames-set : (x : ℕ) → storeOf (set w 2576 x) ≡ withFrames x (storeOf w)
   frames-set x =
       let a = ranges-kept w v (λ k l. same k (λ e. omega arith)) in
@@ -216,14 +215,9 @@ module _ (w : List ℕ) (long : length w ≡ 2579) where
       same : (k : ℕ) → (k ≡ 2577 → ⊥) → getD v k 0 ≡ getD w k 0
       same k n = getD-set-other w 2577 k x 0 n
 
-  pub range-set : (i : ℕ) (r : PageRange) → i < 512 → Narrow r
-      → storeOf (set (set (set w i (lineOf r)) (512 + i) (r .offset * 4294967296 + r .length)) (1024 + i) (tagOf (r .backing))) ≡ withRange i r (storeOf w)
-  range-set i r h N =
-=======
   -- the three numbers of a range set, whatever they are
   pub row-set : (i x y z : ℕ) → i < 512 → storeOf (set (set (set w i x) (512 + i) y) (1024 + i) z) ≡ withRange i (rangeMade x y z) (storeOf w)
   row-set i x y z h =
->>>>>>> 017a6d0274ca42d8a72019d82b79cfa141d0733d
       let b = places-kept w v (λ k l m. same k (λ e. omega arith) (λ e. omega arith) (λ e. omega arith)) in
       let f = free-kept w v (λ k l m. same k (λ e. omega arith) (λ e. omega arith) (λ e. omega arith)) in
       let c = frames-kept w v (same 2576 (λ e. omega arith) (λ e. omega arith) (λ e. omega arith)) in
