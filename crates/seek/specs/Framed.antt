@@ -20,7 +20,9 @@ use Rattle.places.specs.Found.{FirstAt, frame-found, frame-none}
 use Rattle.chains.specs.Chains.{inChain}
 use Rattle.chains.specs.Walk.{Walk, walk-all, walk-less, walk-next}
 use Rattle.sound_places.specs.Alone.{keyOf, SpotChains}
+use Rattle.table.specs.Table.{Table}
 use Rattle.store.specs.Sound.{Sound}
+use Rattle.store.specs.Good.{sound-table}
 use Rattle.sheet.specs.Sheet.{spotted, storeOf}
 use Rattle.sheet.specs.Edits.{place-read, storeOf-sized}
 
@@ -33,8 +35,16 @@ pub record Lone (s : Store) : Type 0 where
   pub alone : (f g : ℕ) → g < f → f < s .frames → (placeAt (s .places) f .backing ≡ 0 → ⊥)
       → placeAt (s .places) g .backing ≡ placeAt (s .places) f .backing → placeAt (s .places) g .index ≡ placeAt (s .places) f .index → ⊥
 
-pub sound-lone : (s : Store) → Sound s → Lone s
-sound-lone s S = record { alone = S .alone }
+-- what pages are looked up by: a table in order, the chains of the frames, no two frames at one place
+pub record Charted (w l : List ℕ) : Type 0 where
+  pub framed : Framed w l
+  pub table : Table (storeOf w .ranges) (storeOf w .count)
+  pub few : storeOf w .frames ≤ 1024
+  pub lone : Lone (storeOf w)
+
+pub sound-charted : (w l : List ℕ) → Sound (storeOf w) → Framed w l → Charted w l
+sound-charted w l S F =
+    record { framed = F; table = sound-table (storeOf w) (storeOf-sized w) S; few = S .few-frames; lone = record { alone = S .alone } }
 
 -- frame f does not stand at index i of backing b
 abbrev pub lacks : List Place → ℕ → ℕ → ℕ → Bool
