@@ -8,12 +8,12 @@ use native.Mathlib.Omega.{arith}
 use lib.Dec.{eqb, ltb}
 use lib.ListN.{drop, getD, length, take}
 use lib.Seq.{getD-drop, getD-take, length-take-le}
-use borrow.Author.Tests.{eq-eqb, eqb-true, lt-ltb, ltb-true, ne-eqb}
+use borrow.Author.Tests.{eq-eqb, eqb-true, ltb-true, ne-eqb}
 use Rattle.frames.specs.declared.Frame.{Frame}
 use Rattle.frames.specs.declared.Frame.the-variants.{At, Nothing}
 use Rattle.places.specs.declared.Place.{Place}
 use Rattle.store.specs.declared.Store.{Store}
-use Rattle.lists.specs.Test.{and-left, and-right, by-eq, by-lt, by-test, pick}
+use Rattle.lists.specs.Test.{and-left, and-right, by-lt, by-test}
 use Rattle.lists.specs.Every.{allBelow, below-at}
 use Rattle.places.specs.Places.{frameAt, nowhere, placeAt, standsAt}
 use Rattle.places.specs.Found.{FirstAt, frame-found, frame-none}

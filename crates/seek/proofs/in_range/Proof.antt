@@ -7,7 +7,6 @@ use Rattle.table.specs.Table.{numberOf}
 use Rattle.look.specs.Look.{indexIn}
 use borrow.Author.Needs.{needs}
 use Rattle.sheet.specs.Sheet.{storeOf}
-use native.Mathlib.Omega.{arith}
 use Rattle.seek.proofs.in_range.Statement.{statement}
 use Rattle.seek.proofs.in_range.Tie as tie
 

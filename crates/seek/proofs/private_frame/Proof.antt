@@ -6,7 +6,6 @@ use Rattle.look.specs.declared.PageAt.the-variants.{Absent, Present}
 use Rattle.look.specs.Look.{located, framed, private-told}
 use borrow.Author.Needs.{needs}
 use Rattle.sheet.specs.Sheet.{storeOf}
-use native.Mathlib.Omega.{arith}
 use Rattle.seek.proofs.private_frame.Statement.{statement}
 use Rattle.seek.proofs.private_frame.Tie as tie
 

@@ -5,7 +5,6 @@ use Rattle.look.specs.declared.PageAt.the-variants.{Absent, Present}
 use Rattle.look.specs.Look.{located}
 use borrow.Author.Needs.{needs}
 use Rattle.sheet.specs.Sheet.{storeOf}
-use native.Mathlib.Omega.{arith}
 use Rattle.seek.proofs.state_of.Statement.{statement}
 use Rattle.seek.proofs.state_of.Tie as tie
 
