@@ -1,5 +1,5 @@
 -- What a chain visits: going from link to link passes over no entry of the chain.
-use mathlib.Core.Path.{_≡_, refl, sym}
+use mathlib.Core.Path.{_≡_, refl, sym, ap, _∙_}
 use mathlib.Core.Bool.{Bool, true, false}
 use mathlib.Core.List.{List}
 use Prim.Native.Nat.{ℕ, zero, suc, _+_, _-_, _%_, _≤_, _<_, zero-le}
@@ -7,8 +7,8 @@ use native.Mathlib.Nat.{not-suc-le-zero}
 use native.Mathlib.Numerals.{add-one}
 use native.Mathlib.Omega.{arith}
 use lib.Dec.{eqb}
-use lib.ListN.{getD, getD-replicate, length, replicate, set}
-use lib.Seq.{getD-set-other, getD-set-same}
+use lib.ListN.{drop, getD, getD-replicate, length, length-drop, length-set, replicate, set, take}
+use lib.Seq.{drop-set-add, drop-set-lt, getD-drop, getD-set-other, getD-set-same, getD-take, length-take-le, take-set-le, take-set-lt}
 use borrow.Author.Tests.{eq-eqb, ne-eqb}
 use Rattle.lists.specs.Test.{pick, by-eq, by-test}
 use Rattle.lists.specs.Every.{allBelow}
@@ -85,3 +85,24 @@ chained-next ks hs ns n l m C = record { heads = heads; next = next }
         by-eq i n
         (λ e. rw (e, getD-set-same ns n (getD hs (getD ks n 0 % 1024) 0) 0 m) (C .heads (getD ks n 0 % 1024) (omega arith)))
         (λ e. rw (getD-set-other ns n i (getD hs (getD ks n 0 % 1024) 0) 0 e) (C .next i (omega arith)))
+
+-- ---- heads and links in one list: the first 1,024 numbers are the heads
+pub linked-none : (ks : List ℕ) → Chained ks 0 (take 1024 (replicate 2048 0)) (drop 1024 (replicate 2048 0))
+unfolding lastBelow
+linked-none ks = record {
+  heads = λ h l. getD-take 1024 (replicate 2048 0) h 0 l ∙ getD-replicate 2048 h 0 0 (omega arith);
+  next = λ i l. absurd (not-suc-le-zero l);
+}
+
+pub linked-next : (ks l : List ℕ) (n h : ℕ) → length l ≡ 2048 → n < 1024 → h ≡ getD ks n 0 % 1024 → Chained ks n (take 1024 l) (drop 1024 l)
+    → Chained ks (n + 1) (take 1024 (set (set l (1024 + n) (getD l h 0)) h (n + 1))) (drop 1024 (set (set l (1024 + n) (getD l h 0)) h (n + 1)))
+linked-next ks l n h long b e C =
+    let low : h < 1024 = omega arith in
+    let x : ℕ = getD l h 0 in
+    let p : take 1024 (set (set l (1024 + n) x) h (n + 1)) ≡ set (take 1024 l) h (n + 1) =
+    take-set-lt 1024 (set l (1024 + n) x) h (n + 1) low ∙ ap (λ (k : List ℕ). set k h (n + 1)) (take-set-le 1024 l (1024 + n) x (omega arith)) in
+    let q : drop 1024 (set (set l (1024 + n) x) h (n + 1)) ≡ set (drop 1024 l) n x =
+    drop-set-lt 1024 (set l (1024 + n) x) h (n + 1) low ∙ drop-set-add 1024 l n x in
+    let r : x ≡ getD (take 1024 l) h 0 = sym (getD-take 1024 l h 0 low) in
+    let N = chained-next ks (take 1024 l) (drop 1024 l) n (length-take-le 1024 l (omega arith)) (simp length-drop (omega arith)) C in
+    rw (p, q, r, e) N

@@ -10,6 +10,9 @@ use Rattle.book.specs.Book.{counts}
 use Rattle.store.specs.Abs.{liveOf}
 use Rattle.store.specs.Sound.{Sound, sound?}
 use Rattle.store.specs.Iff.{says-sound}
+use Rattle.sheet.specs.Sheet.{storeOf}
+use Rattle.sound.specs.Parts.{Examined}
+use Rattle.seek.specs.Framed.{Framed}
 use Rattle.refuse.specs.Refuse.{counts-number, noName, none-left, passes, refusal}
 
 module _ (s : Store) (S : Sound s) where
@@ -23,3 +26,7 @@ module _ (s : Store) (S : Sound s) where
 -- 3, from a test q of the live names that were read
 pub no-name : (s : Store) (o l : ℕ) (q b : Bool) → l ≡ s .live → q ≡ (ltb 31 o || not (getD (liveOf l) o false)) → q ≡ b → noName s o ≡ b
 no-name s o l q b e f t = sym (ap (λ (k : ℕ). ltb 31 o || not (getD (liveOf k) o false)) e) ∙ sym f ∙ t
+
+-- the chains of a store's frames are at hand once it is examined
+pub examined-framed : (s : Store) (w l : List ℕ) → Examined s w l → Framed w l
+examined-framed s w l E = record { chains = rw (E .store) (E .framed) }

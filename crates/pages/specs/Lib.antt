@@ -4,6 +4,7 @@ pub mod Changed
 pub mod Clear
 pub mod Enter
 pub mod Inside
+pub mod Leaving
 pub mod Next
 pub mod Part
 pub mod Present
@@ -11,3 +12,4 @@ pub mod Private
 pub mod Settling
 pub mod Spot
 pub mod Steps
+pub mod Trimming

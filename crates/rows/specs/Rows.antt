@@ -1,17 +1,17 @@
 -- The numbers that ranges hold, marked.
-use mathlib.Core.Path.{_≡_, refl, ap, sym, _∙_}
+use mathlib.Core.Path.{_≡_, ap, sym, _∙_}
 use mathlib.Core.Bool.{false}
 use mathlib.Core.List.{List, [], _∷_}
-use Prim.Native.Nat.{ℕ, zero, suc, _+_, _-_, _≤_, _<_}
+use Prim.Native.Nat.{ℕ, suc, _+_, _-_, _≤_, _<_}
 use native.Mathlib.Omega.{arith}
 use lib.Dec.{eqb}
-use lib.ListN.{getD, getD-replicate, length, set, replicate, take, drop}
+use lib.ListN.{getD, getD-replicate, length, set, replicate}
 use lib.Seq.{getD-set-other, getD-set-same}
 use borrow.Author.Tests.{eq-eqb, ne-eqb}
-use Rattle.lists.specs.Test.{pick, by-eq, by-lt}
+use Rattle.lists.specs.Test.{pick, by-eq}
 use Rattle.lists.specs.Rest.{left-cons, left-end}
 use Rattle.ranges.specs.Range.{Range}
-use Rattle.ranges.specs.Table.{holders, fresh, freshFrom}
+use Rattle.ranges.specs.Table.{holders}
 use Rattle.table.specs.declared.PageRange.{PageRange}
 use Rattle.table.specs.Table.{numberOf, rangeOf, rangesOf, zeroRange}
 use Rattle.table.specs.Holding.{left}

@@ -17,7 +17,7 @@ use Rattle.lists.specs.Listed.{listed, getD-listed, length-listed, listed-ext, 
 use Rattle.table.specs.Table.{zeroRange, numberOf}
 use Rattle.places.specs.Places.{nowhere, place, placeAt}
 use Rattle.store.specs.Sound.{Sized}
-use Rattle.sheet.specs.Sheet.{backingOf, lineOf, rangeAt, rangeMade, spotted, storeOf, tagOf, withCount, withPlace, withRange, withWord, wordAt}
+use Rattle.sheet.specs.Sheet.{backingOf, lineOf, rangeAt, rangeMade, spotted, storeOf, tagOf, withCount, withFrames, withLive, withPlace, withRange, withWord, wordAt}
 
 -- ---- read
 module _ (w : List ℕ) where
@@ -183,26 +183,49 @@ module _ (w : List ℕ) (long : length w ≡ 2579) where
       same : (k : ℕ) → (k ≡ 2578 → ⊥) → getD v k 0 ≡ getD w k 0
       same k n = getD-set-other w 2578 k x 0 n
 
-  pub range-set : (i : ℕ) (r : PageRange) → i < 512 → Narrow r
-      → storeOf (set (set (set w i (lineOf r)) (512 + i) (r .offset * 4294967296 + r .length)) (1024 + i) (tagOf (r .backing))) ≡ withRange i r (storeOf w)
-  range-set i r h N =
+  pub frames-set : (x : ℕ) → storeOf (set w 2576 x) ≡ withFrames x (storeOf w)
+  frames-set x =
+      let a = ranges-kept w v (λ k l. same k (λ e. omega arith)) in
+      let b = places-kept w v (λ k l m. same k (λ e. omega arith)) in
+      let f = free-kept w v (λ k l m. same k (λ e. omega arith)) in
+      let c = sym (frames-read v) ∙ getD-set-same w 2576 x 0 (omega arith) in
+      let d = live-kept w v (same 2577 (λ e. omega arith)) in
+      let n = count-kept w v (same 2578 (λ e. omega arith)) in
+      λ j. record { frames = c j; live = d j; count = n j; ranges = a j; places = b j; free = f j }
+    where
+      v : List ℕ
+      v = set w 2576 x
+
+      same : (k : ℕ) → (k ≡ 2576 → ⊥) → getD v k 0 ≡ getD w k 0
+      same k n = getD-set-other w 2576 k x 0 n
+
+  pub live-set : (x : ℕ) → x < 4294967296 → storeOf (set w 2577 x) ≡ withLive x (storeOf w)
+  live-set x m =
+      let a = ranges-kept w v (λ k l. same k (λ e. omega arith)) in
+      let b = places-kept w v (λ k l m. same k (λ e. omega arith)) in
+      let f = free-kept w v (λ k l m. same k (λ e. omega arith)) in
+      let c = frames-kept w v (same 2576 (λ e. omega arith)) in
+      let d = sym (live-read v) ∙ ap (λ (y : ℕ). y % 4294967296) (getD-set-same w 2577 x 0 (omega arith)) ∙ mod-eq-of-lt m in
+      let n = count-kept w v (same 2578 (λ e. omega arith)) in
+      λ j. record { frames = c j; live = d j; count = n j; ranges = a j; places = b j; free = f j }
+    where
+      v : List ℕ
+      v = set w 2577 x
+
+      same : (k : ℕ) → (k ≡ 2577 → ⊥) → getD v k 0 ≡ getD w k 0
+      same k n = getD-set-other w 2577 k x 0 n
+
+  -- the three numbers of a range set, whatever they are
+  pub row-set : (i x y z : ℕ) → i < 512 → storeOf (set (set (set w i x) (512 + i) y) (1024 + i) z) ≡ withRange i (rangeMade x y z) (storeOf w)
+  row-set i x y z h =
       let b = places-kept w v (λ k l m. same k (λ e. omega arith) (λ e. omega arith) (λ e. omega arith)) in
       let f = free-kept w v (λ k l m. same k (λ e. omega arith) (λ e. omega arith) (λ e. omega arith)) in
       let c = frames-kept w v (same 2576 (λ e. omega arith) (λ e. omega arith) (λ e. omega arith)) in
       let d = live-kept w v (same 2577 (λ e. omega arith) (λ e. omega arith) (λ e. omega arith)) in
       let n = count-kept w v (same 2578 (λ e. omega arith) (λ e. omega arith) (λ e. omega arith)) in
-      let q = range-changed w v i x y z first second third others ∙ ap (λ (y : PageRange). set (storeOf w .ranges) i y) (range-made r N) in
+      let q = range-changed w v i x y z first second third others in
       λ j. record { frames = c j; live = d j; count = n j; ranges = q j; places = b j; free = f j }
     where
-      x : ℕ
-      x = lineOf r
-
-      y : ℕ
-      y = r .offset * 4294967296 + r .length
-
-      z : ℕ
-      z = tagOf (r .backing)
-
       v : List ℕ
       v = set (set (set w i x) (512 + i) y) (1024 + i) z
 
@@ -231,3 +254,8 @@ module _ (w : List ℕ) (long : length w ≡ 2579) where
         same (512 + k) (λ e. omega arith) (λ e. n (omega arith)) (λ e. omega arith),
         same (1024 + k) (λ e. omega arith) (λ e. omega arith) (λ e. n (omega arith)),
       )
+
+  pub range-set : (i : ℕ) (r : PageRange) → i < 512 → Narrow r
+      → storeOf (set (set (set w i (lineOf r)) (512 + i) (r .offset * 4294967296 + r .length)) (1024 + i) (tagOf (r .backing))) ≡ withRange i r (storeOf w)
+  range-set i r h N =
+      row-set i (lineOf r) (r .offset * 4294967296 + r .length) (tagOf (r .backing)) h ∙ ap (λ (y : PageRange). withRange i y (storeOf w)) (range-made r N)

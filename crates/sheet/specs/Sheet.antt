@@ -57,6 +57,17 @@ rangeAt s i = getD (s .ranges) i zeroRange
 abbrev pub wordAt : List ℕ → ℕ → ℕ
 wordAt ws i = getD ws i 0
 
+-- the numbers of a place, and of a range's offset and length
+abbrev pub spotNumber : Place → ℕ
+spotNumber p = p .backing * 4294967296 + p .index
+
+abbrev pub spanNumber : PageRange → ℕ
+spanNumber r = r .offset * 4294967296 + r .length
+
+-- the three numbers of range i set
+abbrev pub rowSet : List ℕ → ℕ → PageRange → List ℕ
+rowSet w i r = set (set (set w i (lineOf r)) (512 + i) (spanNumber r)) (1024 + i) (tagOf (r .backing))
+
 -- ---- a store with one part changed
 abbrev pub withRanges : List PageRange → Store → Store
 withRanges l s = record { frames = s .frames; live = s .live; count = s .count; ranges = l; places = s .places; free = s .free }
@@ -78,3 +89,9 @@ withWord i x s = withFree (set (s .free) i x) s
 
 abbrev pub withCount : ℕ → Store → Store
 withCount n s = record { frames = s .frames; live = s .live; count = n; ranges = s .ranges; places = s .places; free = s .free }
+
+abbrev pub withFrames : ℕ → Store → Store
+withFrames n s = record { frames = n; live = s .live; count = s .count; ranges = s .ranges; places = s .places; free = s .free }
+
+abbrev pub withLive : ℕ → Store → Store
+withLive n s = record { frames = s .frames; live = n; count = s .count; ranges = s .ranges; places = s .places; free = s .free }

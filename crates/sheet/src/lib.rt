@@ -12,11 +12,13 @@ use places::Place;
 use table::BackingPages;
 use table::PageRange;
 ghost use mathlib.Core.Path.{_≡_};
-ghost use Prim.Native.Nat.{_<_};
-ghost use lib.ListN.{length};
+ghost use Prim.Native.Nat.{_+_, _≤_, _<_};
+ghost use lib.ListN.{getD, length, set};
 ghost use Rattle.table.specs.Table.{numberOf};
 ghost use Rattle.places.specs.Places.{placeAt};
-ghost use Rattle.sheet.specs.Sheet.{backingOf, rangeAt, storeOf, tagOf, withCount, withPlace, withRange, withWord, wordAt};
+ghost use Rattle.sheet.specs.Edits.{Narrow};
+ghost use Rattle.sheet.specs.Load.{Spots};
+ghost use Rattle.sheet.specs.Sheet.{backingOf, rangeAt, rowSet, spotNumber, spotted, storeOf, tagOf, withCount, withFrames, withFree, withLive, withPlace, withPlaces, withRange, withWord, wordAt};
 
 // How many numbers a sheet has.
 pub const WORDS: usize = 2579;
@@ -65,7 +67,7 @@ pub fn range(sheet: &[u64; 2579], i: usize) -> PageRange
 // Range i of the table set.
 pub fn set_range(sheet: &mut [u64; 2579], i: usize, r: PageRange)
     requires { ⌜ (length (now sheet) ≡ 2579) × (i < 512) × (r .start .0 < 262144) ⌝ }
-    ensures { λ _. ⌜ (storeOf (now (sheet .exit)) ≡ withRange i r (storeOf (now (sheet .entry)))) × (length (now (sheet .exit)) ≡ 2579) ⌝ }
+    ensures { λ _. ⌜ (storeOf (now (sheet .exit)) ≡ withRange i r (storeOf (now (sheet .entry)))) × (length (now (sheet .exit)) ≡ 2579) × (now (sheet .exit) ≡ rowSet (now (sheet .entry)) i r) × Narrow r ⌝ }
 {
     let k = r.backing;
     let x = tag(k);
@@ -89,7 +91,7 @@ pub fn place(sheet: &[u64; 2579], f: usize) -> Place
 // The place of frame f set.
 pub fn set_place(sheet: &mut [u64; 2579], f: usize, p: Place)
     requires { ⌜ (length (now sheet) ≡ 2579) × (f < 1024) ⌝ }
-    ensures { λ _. ⌜ (storeOf (now (sheet .exit)) ≡ withPlace f p (storeOf (now (sheet .entry)))) × (length (now (sheet .exit)) ≡ 2579) ⌝ }
+    ensures { λ _. ⌜ (storeOf (now (sheet .exit)) ≡ withPlace f p (storeOf (now (sheet .entry)))) × (length (now (sheet .exit)) ≡ 2579) × (now (sheet .exit) ≡ set (now (sheet .entry)) (1536 + f) (spotNumber p)) × (spotted (spotNumber p) ≡ p) ⌝ }
 {
     sheet[1536 + f] = (p.backing as u64) * 4294967296 + (p.index as u64);
 }
@@ -104,7 +106,7 @@ pub fn word(sheet: &[u64; 2579], i: usize) -> u64
 
 pub fn set_word(sheet: &mut [u64; 2579], i: usize, x: u64)
     requires { ⌜ (length (now sheet) ≡ 2579) × (i < 16) ⌝ }
-    ensures { λ _. ⌜ (storeOf (now (sheet .exit)) ≡ withWord i x (storeOf (now (sheet .entry)))) × (length (now (sheet .exit)) ≡ 2579) ⌝ }
+    ensures { λ _. ⌜ (storeOf (now (sheet .exit)) ≡ withWord i x (storeOf (now (sheet .entry)))) × (length (now (sheet .exit)) ≡ 2579) × (now (sheet .exit) ≡ set (now (sheet .entry)) (2560 + i) x) ⌝ }
 {
     sheet[2560 + i] = x;
 }
@@ -133,4 +135,44 @@ pub fn set_count(sheet: &mut [u64; 2579], n: usize)
     ensures { λ _. ⌜ (storeOf (now (sheet .exit)) ≡ withCount n (storeOf (now (sheet .entry)))) × (length (now (sheet .exit)) ≡ 2579) ⌝ }
 {
     sheet[2578] = n as u64;
+}
+
+pub fn set_frames(sheet: &mut [u64; 2579], n: usize)
+    requires { ⌜ length (now sheet) ≡ 2579 ⌝ }
+    ensures { λ _. ⌜ (storeOf (now (sheet .exit)) ≡ withFrames n (storeOf (now (sheet .entry)))) × (length (now (sheet .exit)) ≡ 2579) ⌝ }
+{
+    sheet[2576] = n as u64;
+}
+
+pub fn set_live(sheet: &mut [u64; 2579], names: u32)
+    requires { ⌜ length (now sheet) ≡ 2579 ⌝ }
+    ensures { λ _. ⌜ (storeOf (now (sheet .exit)) ≡ withLive names (storeOf (now (sheet .entry)))) × (length (now (sheet .exit)) ≡ 2579) ⌝ }
+{
+    sheet[2577] = names as u64;
+}
+
+// The words of a free map put into a sheet.
+pub fn load_words(sheet: &mut [u64; 2579], free: [u64; 16])
+    requires { ⌜ length (now sheet) ≡ 2579 ⌝ }
+    ensures { λ _. ⌜ (storeOf (now (sheet .exit)) ≡ withFree free (storeOf (now (sheet .entry)))) × (length (now (sheet .exit)) ≡ 2579) ⌝ }
+{
+    let mut i: usize = 0;
+    while i < 16 {
+        let x = free[i];
+        set_word(sheet, i, x);
+        i += 1;
+    }
+}
+
+// The places of all frames put into a sheet.
+pub fn load_places(sheet: &mut [u64; 2579], places: [Place; 1024])
+    requires { ⌜ length (now sheet) ≡ 2579 ⌝ }
+    ensures { λ _. ⌜ (storeOf (now (sheet .exit)) ≡ withPlaces places (storeOf (now (sheet .entry)))) × (length (now (sheet .exit)) ≡ 2579) × Spots places 1024 (now (sheet .exit)) ⌝ }
+{
+    let mut f: usize = 0;
+    while f < 1024 {
+        let p = places[f];
+        set_place(sheet, f, p);
+        f += 1;
+    }
 }

@@ -2,28 +2,33 @@
 use mathlib.Core.Path.{_≡_, refl, sym, ap, _∙_}
 use mathlib.Core.Bool.{Bool, true, false, _&&_}
 use mathlib.Core.List.{List, [], _∷_}
-use Prim.Native.Nat.{ℕ, _+_, _%_, _≤_, _<_}
+use Prim.Native.Nat.{ℕ, _+_, _/_, _%_, _≤_, _<_, max}
 use native.Mathlib.Omega.{arith}
 use lib.Dec.{ltb, leb, eqb}
-use lib.ListN.{length, take, drop, getD}
+use lib.ListN.{length, length-drop, take, drop, getD}
+use lib.Seq.{getD-drop, getD-take, length-take-le, take-all}
 use borrow.Author.Tests.{leb-true}
 use Rattle.table.specs.declared.PageRange.{PageRange}
 use Rattle.table.specs.declared.BackingPages.{BackingPages}
 use Rattle.table.specs.declared.BackingPages.the-variants.{Nothing, Single, Many}
 use Rattle.places.specs.declared.Place.{Place}
 use Rattle.store.specs.declared.Store.{Store}
-use Rattle.lists.specs.Test.{and-left}
+use Rattle.lists.specs.Test.{and-left, by-test}
 use Rattle.lists.specs.Every.{allBelow, both-true, every}
-use Rattle.table.specs.Table.{rangesOf, zeroRange}
+use Rattle.table.specs.Table.{numberOf, rangesOf, zeroRange}
 use Rattle.places.specs.Places.{placeAt}
-use Rattle.chains.specs.Chains.{Chained}
-use Rattle.columns.specs.Columns.{spotted}
-use Rattle.columns.specs.Ranges.{Tags, Spans}
+use Rattle.chains.specs.Chains.{Chained, Linked}
+use Rattle.columns.specs.Columns.{spotOf, spots-done, spotted}
+use Rattle.columns.specs.Ranges.{Tag, Tags, Span, Spans, span-told, tag-many, tag-nothing, tag-single}
+use Rattle.sheet.specs.Sheet.{spanNumber, storeOf, tagOf, withCount, withFrames, withFree, withLive, withPlaces, withRanges}
+use Rattle.sheet.specs.Load.{Rows, Spots, ranges-loaded, spots-kept}
 use Rattle.store.specs.Abs.{used, liveBit}
 use Rattle.store.specs.Sound.{Sized, alike, alone?, bit?, counts?, fine?, idle?, kind?, places?, ranges?, rising?, sound?, stands?, window?, zero?}
 use Rattle.sound_ranges.specs.Agree.{alikeTo, agree-told, every-at}
+use Rattle.sound_ranges.specs.Slots.{slots?, Loaded}
 use Rattle.sound_ranges.specs.Shape.{shaped?, shapedKind?, shaped-number, rises?, rises-parts}
 use Rattle.sound_places.specs.Bits.{below-both}
+use Rattle.sound_places.specs.Alone.{keyOf, SpotChains}
 use Rattle.sound_places.specs.Seats.{seated?, seatedAt, seated-told}
 use Rattle.sound_places.specs.Windows.{walked?, walks-windows}
 
@@ -97,19 +102,65 @@ module _ (s : Store) where
       sort true true true true e = refl
       sort true true true false e = refl
 
--- the columns and chains of a table, as the first part leaves them for the second
-pub record Columns (s : Store) (ts xs hs ns : List ℕ) : Type 0 where
-  pub tags : Tags (s .ranges) (s .count) ts
-  pub spans : Spans (s .ranges) (s .count) xs
-  pub chained : Chained ts (s .count) hs ns
-  pub numbers : (i : ℕ) → i < s .count → 0 < getD ts i 0 % 4294967296
+-- ---- the parts of a sheet that the tests go through
+abbrev pub tagsOf : List ℕ → List ℕ
+tagsOf w = take 512 (drop 1024 w)
+
+abbrev pub spansOf : List ℕ → List ℕ
+spansOf w = take 512 (drop 512 w)
+
+abbrev pub spotsOf : List ℕ → List ℕ
+spotsOf w = take 1024 (drop 1536 w)
+
+-- range i has a backing with a number
+abbrev pub Numbered : List ℕ → ℕ → Type 0
+Numbered w i = 0 < getD (tagsOf w) i 0 % 4294967296
+
+-- a store in its sheet
+pub record Told (s : Store) (w : List ℕ) : Type 0 where
+  pub store : storeOf w ≡ s
+  pub long : length w ≡ 2579
+  pub rows : Rows (s .ranges) 512 w
+  pub spots : Spots (s .places) 1024 w
+
+-- the links of the first n ranges of a sheet, behind their heads
+abbrev pub Links : List ℕ → ℕ → List ℕ → Type 0
+Links w n h = Linked (tagsOf w) n (drop 1024 h)
+
+-- the chains of the first n ranges of a sheet
+pub record Chains (w : List ℕ) (n : ℕ) (h : List ℕ) : Type 0 where
+  pub long : length w ≡ 2579
+  pub heads : length h ≡ 2048
+  pub chained : Chained (tagsOf w) n (take 1024 h) (drop 1024 h)
+  pub numbers : (i : ℕ) → i < n → Numbered w i
+
+-- the tests, of a sheet
+unfoldable pub agreeing? : List ℕ → ℕ → Bool
+agreeing? w n = allBelow (λ i. allBelow (alikeTo (tagsOf w) i) i) n
+
+unfoldable pub resting? : ℕ → ℕ → List ℕ → List ℕ → List ℕ → Bool
+resting? m n ws w h =
+    allBelow (λ f. idle? m f (placeAt (spotted (spotsOf w)) f) && bit? m (spotted (spotsOf w)) ws f) 1024
+    && (allBelow (seatedAt (tagsOf w) (spotted (spotsOf w)) m) n
+    && allBelow (λ f. walked? (tagsOf w) (spansOf w) (take 1024 h) (placeAt (spotted (spotsOf w)) f)) m)
+
+unfoldable pub placed? : ℕ → ℕ → List ℕ → List ℕ → List ℕ → Bool
+placed? m n ws w h = allBelow (alone? (spotted (spotsOf w))) m && resting? m n ws w h
+
+-- what the tests of a sheet say, the chains of its ranges being whatever they are
+pub record Tested (m n : ℕ) (ws w : List ℕ) (q : Bool) (l : List ℕ) : Type 0 where
+  pub holders : List ℕ
+  pub chains : Chained (tagsOf w) n (take 1024 holders) (drop 1024 holders)
+  pub answer : q ≡ (agreeing? w n && placed? m n ws w holders)
+  pub framed : q ≡ true → SpotChains (spotsOf w) m (take 1024 l) (drop 1024 l)
+
+-- a sound store in its sheet, with its frames chained
+pub record Examined (s : Store) (w l : List ℕ) : Type 0 where
+  pub store : storeOf w ≡ s
+  pub long : length w ≡ 2579
+  pub framed : SpotChains (drop 1536 w) (s .frames) (take 1024 l) (drop 1024 l)
 
 module _ (s : Store) (m : s .count ≤ length (s .ranges)) (ts : List ℕ) (T : Tags (s .ranges) (s .count) ts) where
-  pub ranges-told : (a b d : Bool) → a ≡ true → a ≡ rises? (s .live) 0 (used s) → b ≡ allBelow (λ i. allBelow (alikeTo ts i) i) (s .count) → d ≡ rest? s
-      → (b && d) ≡ rangeTests s
-  unfolding rangeTests
-  ranges-told a b d e p q r = rw (q ∙ agree-told (s .ranges) ts (s .count) m T, r, ← p, e)
-
   -- backings are numbered from 1
   pub numbers-told : rises? (s .live) 0 (used s) ≡ true → (i : ℕ) → i < s .count → 0 < getD ts i 0 % 4294967296
   numbers-told h i l =
@@ -155,6 +206,48 @@ module _ (s : Store) (m : s .count ≤ length (s .ranges)) (ts : List ℕ) (T : 
           both true false = refl
           both true true = refl
 
+-- ---- a store in its sheet: its parts are columns of the store
+module _ (s : Store) (w : List ℕ) (T : Told s w) where
+  tag-at : (i : ℕ) → i < 512 → getD (tagsOf w) i 0 ≡ tagOf (getD (s .ranges) i zeroRange .backing)
+  tag-at i h = getD-take 512 (drop 1024 w) i 0 h ∙ getD-drop 1024 w i 0 ∙ T .rows .tag i h
+
+  span-at : (i : ℕ) → i < 512 → getD (spansOf w) i 0 ≡ spanNumber (getD (s .ranges) i zeroRange)
+  span-at i h = getD-take 512 (drop 512 w) i 0 h ∙ getD-drop 512 w i 0 ∙ T .rows .span i h
+
+  spot-word : (f : ℕ) → f < 1024 → getD (spotsOf w) f 0 ≡ getD w (1536 + f) 0
+  spot-word f h = getD-take 1024 (drop 1536 w) f 0 h ∙ getD-drop 1536 w f 0
+
+  tag-told : (k : BackingPages) → numberOf k < 4294967296 → Tag k (tagOf k)
+  tag-told Nothing h = tag-nothing Nothing refl
+  tag-told (Single n) h = tag-single (Single n) n h refl
+  tag-told (Many n) h = tag-many (Many n) n h refl
+
+  pub sheet-tags : s .count ≤ 512 → Tags (s .ranges) (s .count) (tagsOf w)
+  sheet-tags m = record { each = λ i h. let l : i < 512 = omega arith in rw (tag-at i l) (tag-told (getD (s .ranges) i zeroRange .backing) (T .rows .narrow i l .backing)) }
+
+  pub sheet-spans : s .count ≤ 512 → Spans (s .ranges) (s .count) (spansOf w)
+  sheet-spans m = record { each = λ i h. let l : i < 512 = omega arith in rw (span-at i l) (span-told (getD (s .ranges) i zeroRange) (T .rows .narrow i l .length)) }
+
+  pub sheet-spots : length (s .places) ≡ 1024 → spotted (spotsOf w) ≡ s .places
+  sheet-spots m =
+      spots-done (s .places) (spotsOf w) 1024 m (length-take-le 1024 (drop 1536 w) (simp length-drop (omega (arith, T .long))))
+      (record { each = λ f h. one f h })
+    where
+      one : (f : ℕ) → f < 1024 → spotOf (getD (spotsOf w) f 0) ≡ placeAt (s .places) f
+      one f h =
+          let n = T .spots .number f h in
+          let p = ap (λ (q : Place). q .index) (T .spots .place f h) in
+          let b : getD w (1536 + f) 0 / 4294967296 ≡ placeAt (s .places) f .backing = omega arith in
+          rw (spot-word f h) (λ j. record { backing = b j; index = p j })
+
+  -- frames chained by the words of the sheet
+  pub sheet-framed : (n : ℕ) (l : List ℕ) → n ≤ 1024 → SpotChains (spotsOf w) n (take 1024 l) (drop 1024 l) → SpotChains (drop 1536 w) n (take 1024 l) (drop 1024 l)
+  sheet-framed n l m C = record {
+    keys = C .keys;
+    filled = record { each = λ f h. C .filled .each f h ∙ ap (λ (x : ℕ). keyOf x f) (getD-take 1024 (drop 1536 w) f 0 (omega arith)) };
+    chained = C .chained;
+  }
+
 module _ (s : Store) where
   pub counts-says : counts? s ≡ true → (s .frames ≤ 1024) × (s .count ≤ 512)
   unfolding counts?
@@ -167,10 +260,6 @@ module _ (s : Store) where
   unfolding sound?
   sound-none h = rw h
 
-  pub ranges-none : (a : Bool) → a ≡ false → a ≡ rises? (s .live) 0 (used s) → false ≡ rangeTests s
-  unfolding rangeTests
-  ranges-none a e p = rw (← p, e)
-
   pub sound-told : (a b : Bool) → counts? s ≡ true → a ≡ true → a ≡ rangeTests s → b ≡ placeTests s → b ≡ sound? s
   unfolding sound?
   sound-told a b h e p q = rw (h, ← tests-parts s, ← p, e) q
@@ -178,3 +267,108 @@ module _ (s : Store) where
   pub sound-ranges : (a : Bool) → counts? s ≡ true → a ≡ false → a ≡ rangeTests s → false ≡ sound? s
   unfolding sound?
   sound-ranges a h e p = rw (h, ← tests-parts s, ← p, e)
+
+-- ---- lengths of the parts
+module _ (w : List ℕ) (long : length w ≡ 2579) where
+  pub tags-long : length (tagsOf w) ≡ 512
+  tags-long = length-take-le 512 (drop 1024 w) (simp length-drop (omega arith))
+
+  pub spans-long : length (spansOf w) ≡ 512
+  spans-long = length-take-le 512 (drop 512 w) (simp length-drop (omega arith))
+
+  pub lines-long : length (take 512 w) ≡ 512
+  lines-long = length-take-le 512 w (omega arith)
+
+  pub spots-long : length (spotsOf w) ≡ 1024
+  spots-long = length-take-le 1024 (drop 1536 w) (simp length-drop (omega arith))
+
+module _ (l : List ℕ) (long : length l ≡ 2048) where
+  pub next-all : take 1024 (drop 1024 l) ≡ drop 1024 l
+  next-all = take-all 1024 (drop 1024 l) (simp length-drop (omega arith))
+
+  pub heads-long : length (take 1024 l) ≡ 1024
+  heads-long = length-take-le 1024 l (omega arith)
+
+  pub next-long : length (take 1024 (drop 1024 l)) ≡ 1024
+  next-long = length-take-le 1024 (drop 1024 l) (simp length-drop (omega arith))
+
+-- ---- the tests put together
+pub placed-none : (m n : ℕ) (ws w h : List ℕ) → allBelow (alone? (spotted (spotsOf w))) m ≡ false → false ≡ placed? m n ws w h
+unfolding placed?
+placed-none m n ws w h e = rw e
+
+pub placed-rest : (m n : ℕ) (ws w h : List ℕ) (q : Bool) → allBelow (alone? (spotted (spotsOf w))) m ≡ true → q ≡ resting? m n ws w h → q ≡ placed? m n ws w h
+unfolding placed?
+placed-rest m n ws w h q e p = rw e p
+
+module _ (s : Store) where
+  slots-parts : slots? (s .live) (s .ranges) (s .count) 0 0 ≡ (rises? (s .live) 0 (used s) && rest? s)
+  unfolding slots?
+  slots-parts = let e : max 0 (s .count) ≡ s .count = omega arith in rw e
+
+  pub slots-none : slots? (s .live) (s .ranges) (s .count) 0 0 ≡ false → false ≡ rangeTests s
+  unfolding rangeTests
+  slots-none h = go (rises? (s .live) 0 (used s)) (agree? s) (rest? s) (sym slots-parts ∙ h)
+    where
+      go : (r a z : Bool) → (r && z) ≡ false → false ≡ (r && (a && z))
+      go false a z e = refl
+      go true false z e = refl
+      go true true z e = sym e
+
+  module _ (w : List ℕ) (T : Told s w) (sizes : Sized s) (few : s .count ≤ 512) where
+    m : s .count ≤ length (s .ranges)
+    m = omega (arith, sizes .ranges)
+
+    pub slots-numbers : slots? (s .live) (s .ranges) (s .count) 0 0 ≡ true → (i : ℕ) → i < s .count → Numbered w i
+    slots-numbers h = numbers-told s m (tagsOf w) (sheet-tags s w T few) (and-left (rises? (s .live) 0 (used s)) _ (sym slots-parts ∙ h))
+
+    slots-agree : slots? (s .live) (s .ranges) (s .count) 0 0 ≡ true → agreeing? w (s .count) ≡ rangeTests s
+    unfolding rangeTests agreeing?
+    slots-agree h =
+        agree-told (s .ranges) (tagsOf w) (s .count) m (sheet-tags s w T few) ∙ go (rises? (s .live) 0 (used s)) (agree? s) (rest? s) (sym slots-parts ∙ h)
+      where
+        go : (r a z : Bool) → (r && z) ≡ true → a ≡ (r && (a && z))
+        go r a z e = let b = both-true r z e in rw (b .0, b .1) (unit a)
+          where
+            unit : (a : Bool) → a ≡ (a && true)
+            unit true = refl
+            unit false = refl
+
+    placed-told : (hs : List ℕ) → Chained (tagsOf w) (s .count) (take 1024 hs) (drop 1024 hs)
+        → placed? (s .frames) (s .count) (s .free) w hs ≡ placeTests s
+    unfolding placed? resting?
+    placed-told hs C =
+        swap (allBelow (alone? (spotted (spotsOf w))) (s .frames))
+        (allBelow (λ f. idle? (s .frames) f (placeAt (spotted (spotsOf w)) f) && bit? (s .frames) (spotted (spotsOf w)) (s .free) f) 1024)
+        (allBelow (seatedAt (tagsOf w) (spotted (spotsOf w)) (s .frames)) (s .count)
+        && allBelow (λ f. walked? (tagsOf w) (spansOf w) (take 1024 hs) (placeAt (spotted (spotsOf w)) f)) (s .frames))
+        ∙ places-told s m (tagsOf w) (sheet-tags s w T few) (spansOf w) (take 1024 hs) (drop 1024 hs) (spotsOf w) (sheet-spans s w T few) C (sheet-spots s w T (sizes .places)) _ _ _ _ refl refl refl refl
+      where
+        swap : (b a c : Bool) → (b && (a && c)) ≡ (a && (b && c))
+        swap true a c = refl
+        swap false true c = refl
+        swap false false c = refl
+
+    pub examined : (q : Bool) (l : List ℕ) → counts? s ≡ true → slots? (s .live) (s .ranges) (s .count) 0 0 ≡ true → Tested (s .frames) (s .count) (s .free) w q l
+        → (q ≡ sound? s) × Sized s × (q ≡ true → Examined s w l)
+    examined q l h z E =
+        let n = counts-says s h in (
+          by-test (agreeing? w (s .count))
+              (λ e. sound-told s _ q h e (slots-agree z) (E .answer ∙ rw e (placed-told (E .holders) (E .chains))))
+              (λ e. E .answer ∙ rw e (sound-ranges s _ h e (slots-agree z))),
+          sizes,
+          λ e. record { store = T .store; long = T .long; framed = sheet-framed s w T (s .frames) l (n .0) (E .framed e) },
+        )
+
+-- ---- a store put into a sheet, part by part
+pub loaded-told : (s : Store) (w₀ w₁ w₂ w₃ w₄ w₅ w₆ : List ℕ) → length (s .ranges) ≡ 512 → storeOf w₁ ≡ withFrames (s .frames) (storeOf w₀)
+    → storeOf w₂ ≡ withLive (s .live) (storeOf w₁) → storeOf w₃ ≡ withCount (s .count) (storeOf w₂) → storeOf w₄ ≡ withFree (s .free) (storeOf w₃)
+    → storeOf w₅ ≡ withPlaces (s .places) (storeOf w₄) → Spots (s .places) 1024 w₅ → Loaded (s .ranges) w₅ w₆ → Told s w₆
+loaded-told s w₀ w₁ w₂ w₃ w₄ w₅ w₆ m e₁ e₂ e₃ e₄ e₅ S L =
+    let e = e₅ ∙ ap (withPlaces (s .places)) (e₄ ∙ ap (withFree (s .free)) (e₃ ∙ ap (withCount (s .count)) (e₂ ∙ ap (withLive (s .live)) e₁))) in
+    record {
+      store = ranges-loaded (s .ranges) w₅ w₆ m (L .rows) (L .kept) ∙ ap (withRanges (s .ranges)) e;
+      long = L .long;
+      rows = L .rows;
+      spots = spots-kept (s .places) 1024 w₅ w₆ (L .kept) S;
+    }

@@ -1,11 +1,14 @@
-// THE TEST OF SOUNDNESS: whether a store is sound, for any value of its type.
+// THE TEST OF SOUNDNESS: whether a store is sound, for any value of its type. The store is put into a sheet on the way, and its ranges and frames are chained, for
+// those who work on it then.
 use store::Store;
 ghost use mathlib.Core.Path.{_≡_};
-ghost use Prim.Native.Nat.{_≤_};
 ghost use mathlib.Core.Bool.{true};
-ghost use lib.ListN.{length, replicate};
+ghost use Prim.Native.Nat.{ℕ, _≤_, _<_};
+ghost use lib.ListN.{drop, length, replicate, take};
 ghost use Rattle.store.specs.Sound.{counts?, sound?, Sized};
-ghost use Rattle.sound.specs.Parts.{Columns, placeTests, rangeTests};
+ghost use Rattle.sound_places.specs.Alone.{SpotChains};
+ghost use Rattle.sound_ranges.specs.Slots.{slots?};
+ghost use Rattle.sound.specs.Parts.{agreeing?, placed?, resting?, Chains, Examined, Links, Numbered, Tested, Told, spotsOf};
 
 // "1 to 1,024 frames", "at most 512 ranges"
 pub fn counts(s: Store) -> bool
@@ -14,66 +17,128 @@ pub fn counts(s: Store) -> bool
     (1 <= s.frames) & ((s.frames <= 1024) & (s.count <= 512))
 }
 
-// The sentences about ranges, but for the frames of `Single` ones. The columns of the table and the chains of its backings are left for the other tests.
-pub fn range_tests(
-    s: Store,
-    tags: &mut [usize; 1024],
-    spans: &mut [u64; 512],
-    heads: &mut [u32; 1024],
-    next: &mut [u32; 1024],
-) -> bool
-    requires { ⌜ (s .count ≤ 512) × (length (now tags) ≡ 1024) × (length (now spans) ≡ 512) × (now heads ≡ replicate 1024 0) × (length (now next) ≡ 1024) ⌝ }
-    ensures { λ q. ⌜ (q ≡ rangeTests s) × (q ≡ true → Columns s (now (tags .exit)) (now (spans .exit)) (now (heads .exit)) (now (next .exit))) ⌝ }
+// A store put into a sheet, if each range by itself, their order and the unused slots are as they should be.
+fn load(s: Store, sheet: &mut [u64; 2579]) -> bool
+    requires { ⌜ (s .count ≤ 512) × (length (now sheet) ≡ 2579) ⌝ }
+    ensures { λ q. ⌜ (q ≡ slots? (s .live) (s .ranges) (s .count) 0 0) × (q ≡ true → Told s (now (sheet .exit))) ⌝ }
 {
+    sheet::set_frames(sheet, s.frames);
+    sheet::set_live(sheet, s.live);
+    sheet::set_count(sheet, s.count);
+    let free = s.free;
+    sheet::load_words(sheet, free);
+    let places = s.places;
+    sheet::load_places(sheet, places);
     let ranges = s.ranges;
-    let count = s.count;
-    if sound_ranges::all_shaped(ranges, count, s.live, tags, spans) {
-        chains::chain(tags, count, heads, next);
-        let a = sound_ranges::all_agree(tags, next, count);
-        let b = sound_ranges::rest_zero(ranges, count);
-        return a & b;
+    sound_ranges::load_ranges(ranges, s.count, s.live, sheet)
+}
+
+// "Ranges that hold one backing agree on its kind."
+fn agree(sheet: &[u64], holders: &[u32], count: usize) -> bool
+    requires { ⌜ (count ≤ 512) × (length (now sheet) ≡ 2579) × (length (now holders) ≡ 2048) × Links (now sheet) count (now holders) ⌝ }
+    ensures { λ q. ⌜ q ≡ agreeing? (now (sheet .entry)) count ⌝ }
+{
+    sound_ranges::all_agree(&sheet[1024..1536], &holders[1024..2048], count)
+}
+
+// The bits and the places of free frames; the frames of `Single` ranges; windows.
+fn rest_tests(
+    sheet: &[u64],
+    count: usize,
+    frames: usize,
+    free: [u64; 16],
+    holders: &[u32],
+    links: &[u32],
+) -> bool
+    requires { ⌜ (frames ≤ 1024) × (count ≤ 512) × Chains (now sheet) count (now holders) × (length (now links) ≡ 2048) × SpotChains (spotsOf (now sheet)) frames (take 1024 (now links)) (drop 1024 (now links)) ⌝ }
+    ensures { λ q. ⌜ q ≡ resting? frames count free (now (sheet .entry)) (now (holders .entry)) ⌝ }
+{
+    let spots = &sheet[1536..2560];
+    let tags = &sheet[1024..1536];
+    let a = sound_places::all_bits(free, spots, frames);
+    let d = sound_places::all_seated(
+        spots,
+        &links[0..1024],
+        &links[1024..2048],
+        frames,
+        tags,
+        count,
+    );
+    let e = sound_places::all_windows(
+        spots,
+        frames,
+        &sheet[0..512],
+        tags,
+        &sheet[512..1024],
+        &holders[0..1024],
+        &holders[1024..2048],
+        count,
+    );
+    a & (d & e)
+}
+
+// The sentences about frames, their places and their bits, and the frames of `Single` ranges. Frames are chained.
+fn place_tests(
+    sheet: &[u64],
+    count: usize,
+    frames: usize,
+    free: [u64; 16],
+    holders: &[u32],
+    links: &mut [u32; 2048],
+) -> bool
+    requires { ⌜ (frames ≤ 1024) × (count ≤ 512) × Chains (now sheet) count (now holders) × (now links ≡ replicate 2048 0) ⌝ }
+    ensures { λ q. ⌜ (q ≡ placed? frames count free (now (sheet .entry)) (now (holders .entry))) × (q ≡ true → SpotChains (spotsOf (now (sheet .entry))) frames (take 1024 (now (links .exit))) (drop 1024 (now (links .exit)))) ⌝ }
+{
+    if sound_places::chain_frames(&sheet[1536..2560], frames, links) {
+        return rest_tests(sheet, count, frames, free, holders, links);
     }
     false
 }
 
-// The sentences about frames, their places and their bits, and the frames of `Single` ranges.
-pub fn place_tests(
-    s: Store,
-    tags: &[usize; 1024],
-    spans: &[u64; 512],
-    heads: &[u32; 1024],
-    next: &[u32; 1024],
+// The sentences that are left when a store is in its sheet. Ranges are chained by their backings, and frames by their places.
+fn tests(
+    sheet: &[u64],
+    count: usize,
+    frames: usize,
+    free: [u64; 16],
+    holders: &mut [u32; 2048],
+    links: &mut [u32; 2048],
 ) -> bool
-    requires { ⌜ (s .frames ≤ 1024) × (s .count ≤ 512) × (Columns s (now tags) (now spans) (now heads) (now next)) ⌝ }
-    ensures { λ q. ⌜ q ≡ placeTests s ⌝ }
+    requires { ⌜ (frames ≤ 1024) × (count ≤ 512) × (length (now sheet) ≡ 2579) × ((i : ℕ) → i < count → Numbered (now sheet) i) × (now holders ≡ replicate 2048 0) × (now links ≡ replicate 2048 0) ⌝ }
+    ensures { λ q. ⌜ Tested frames count free (now (sheet .entry)) q (now (links .exit)) ⌝ }
 {
-    let places = s.places;
-    let free = s.free;
-    let frames = s.frames;
-    let mut spots = [0u64; 1024];
-    columns::spots(places, &mut spots);
-    let mut firsts = [0u32; 1024];
-    let mut later = [0u32; 1024];
-    sound_places::chain_frames(&spots, frames, &mut firsts, &mut later);
-    let a = sound_places::all_bits(free, &spots, frames);
-    let b = sound_places::all_alone(&spots, &later, frames);
-    let d = sound_places::all_seated(&spots, &firsts, &later, frames, tags, s.count);
-    let e = sound_places::all_windows(&spots, frames, tags, spans, heads, next);
-    a & (b & (d & e))
+    chains::link(&sheet[1024..1536], count, holders);
+    if agree(sheet, holders, count) {
+        return place_tests(sheet, count, frames, free, holders, links);
+    }
+    false
 }
 
-// "What a sound store is", as one test. Its caller learns the lengths of the store's tables too.
-pub fn sound(s: Store) -> bool
-    ensures { λ q. ⌜ (q ≡ sound? s) × Sized s ⌝ }
+// "What a sound store is", as one test. A sound store is in the sheet then, and its frames are chained. The caller learns the lengths of the store's tables too.
+pub fn examine(
+    s: Store,
+    sheet: &mut [u64; 2579],
+    holders: &mut [u32; 2048],
+    links: &mut [u32; 2048],
+) -> bool
+    requires { ⌜ (length (now sheet) ≡ 2579) × (now holders ≡ replicate 2048 0) × (now links ≡ replicate 2048 0) ⌝ }
+    ensures { λ q. ⌜ (q ≡ sound? s) × Sized s × (q ≡ true → Examined s (now (sheet .exit)) (now (links .exit))) ⌝ }
 {
     if counts(s) {
-        let mut tags = [0usize; 1024];
-        let mut spans = [0u64; 512];
-        let mut heads = [0u32; 1024];
-        let mut next = [0u32; 1024];
-        if range_tests(s, &mut tags, &mut spans, &mut heads, &mut next) {
-            return place_tests(s, &tags, &spans, &heads, &next);
+        if load(s, sheet) {
+            let free = s.free;
+            return tests(sheet, s.count, s.frames, free, holders, links);
         }
     }
     false
+}
+
+// The same by itself.
+pub fn sound(s: Store) -> bool
+    ensures { λ q. ⌜ (q ≡ sound? s) × Sized s ⌝ }
+{
+    let mut sheet = [0u64; 2579];
+    let mut holders = [0u32; 2048];
+    let mut links = [0u32; 2048];
+    examine(s, &mut sheet, &mut holders, &mut links)
 }

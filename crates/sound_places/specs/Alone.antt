@@ -2,16 +2,17 @@
 use mathlib.Core.Path.{_≡_, refl, sym, ap, _∙_}
 use mathlib.Core.Bool.{Bool, true, false, not, _||_, false≢true}
 use mathlib.Core.List.{List}
-use Prim.Native.Nat.{ℕ, _+_, _*_, _/_, _%_, _<_}
+use Prim.Native.Nat.{ℕ, _+_, _*_, _/_, _%_, _≤_, _<_}
 use native.Mathlib.Omega.{arith}
 use lib.Dec.{eqb}
-use lib.ListN.{getD}
+use lib.ListN.{drop, getD, length, set, take}
 use borrow.Author.Tests.{eq-eqb, ne-eqb}
 use Rattle.places.specs.declared.Place.{Place}
 use Rattle.lists.specs.Test.{pick, by-eq}
 use Rattle.lists.specs.Every.{at-below}
+use Rattle.lists.specs.Listed.{listed, getD-listed}
 use Rattle.places.specs.Places.{placeAt}
-use Rattle.chains.specs.Chains.{Chained, Linked, inChain}
+use Rattle.chains.specs.Chains.{Chained, Linked, inChain, linked-next}
 use Rattle.chains.specs.Walk.{Walk, walk-before}
 use Rattle.columns.specs.Columns.{Filled, spot-at, spotted}
 use Rattle.store.specs.Sound.{alone?, apart?}
@@ -35,6 +36,26 @@ pub record SpotLinks (xs : List ℕ) (n : ℕ) (ns : List ℕ) : Type 0 where
   pub keys : List ℕ
   pub filled : Keys xs n keys
   pub links : Linked keys n ns
+
+-- ---- the keys of n frames, and chains by them, made frame by frame
+unfoldable pub keysOf : List ℕ → ℕ → List ℕ
+keysOf xs n = listed (λ f. keyOf (getD xs f 0) f) n
+
+module _ (xs : List ℕ) (n : ℕ) where
+  key-at : (f : ℕ) → f < n → getD (keysOf xs n) f 0 ≡ keyOf (getD xs f 0) f
+  unfolding keysOf
+  key-at f h = getD-listed (λ f. keyOf (getD xs f 0) f) n f 0 h
+
+  pub key-next : (l : List ℕ) (f h : ℕ) → length l ≡ 2048 → n ≤ 1024 → f < n → h ≡ keyOf (getD xs f 0) f % 1024
+      → Chained (keysOf xs n) f (take 1024 l) (drop 1024 l)
+      → Chained (keysOf xs n) (f + 1) (take 1024 (set (set l (1024 + f) (getD l h 0)) h (f + 1))) (drop 1024 (set (set l (1024 + f) (getD l h 0)) h (f + 1)))
+  key-next l f h long few b e C = linked-next (keysOf xs n) l f h long (omega arith) (e ∙ ap (λ (k : ℕ). k % 1024) (sym (key-at f b))) C
+
+  pub key-links : (f : ℕ) (hs ns : List ℕ) → f ≤ n → Chained (keysOf xs n) f hs ns → SpotLinks xs f ns
+  key-links f hs ns l C = record { keys = keysOf xs n; filled = record { each = λ k h. key-at k (omega arith) }; links = C .next }
+
+  pub key-chains : (hs ns : List ℕ) → Chained (keysOf xs n) n hs ns → SpotChains xs n hs ns
+  key-chains hs ns C = record { keys = keysOf xs n; filled = record { each = λ k h. key-at k h }; chained = C }
 
 pub spot-links : (xs : List ℕ) (n : ℕ) (hs ns : List ℕ) → SpotChains xs n hs ns → SpotLinks xs n ns
 spot-links xs n hs ns C = record { keys = C .keys; filled = C .filled; links = C .chained .next }

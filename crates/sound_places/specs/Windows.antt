@@ -39,18 +39,24 @@ outsideAt ts xs x = outside ts xs (x / 4294967296) (x % 4294967296)
 abbrev pub walked? : List ℕ → List ℕ → List ℕ → Place → Bool
 walked? ts xs hs p = eqb (p .backing) 0 || not (allBelow (outside ts xs (p .backing) (p .index)) (getD hs (p .backing % 1024) 0))
 
--- the chains of the ranges, by their tags
-pub record TagChains (ts hs ns : List ℕ) : Type 0 where
-  pub count : ℕ
-  pub few : count ≤ 512
-  pub chained : Chained ts count hs ns
+-- the chains of the first n ranges, by their tags, and a link to one of those, or 0
+pub record Hinted (ts hs ns : List ℕ) (n k : ℕ) : Type 0 where
+  pub few : n ≤ 512
+  pub chained : Chained ts n hs ns
+  pub low : k ≤ n
 
--- the same, and a link to one of those ranges, or 0
-pub record Hinted (ts hs ns : List ℕ) (k : ℕ) : Type 0 where
-  pub count : ℕ
-  pub few : count ≤ 512
-  pub chained : Chained ts count hs ns
-  pub low : k ≤ count
+-- how long the columns and the chains are
+pub record Wide (ls ts xs hs ns : List ℕ) : Type 0 where
+  pub lines : length ls ≡ 512
+  pub tags : length ts ≡ 512
+  pub spans : length xs ≡ 512
+  pub heads : length hs ≡ 1024
+  pub next : length ns ≡ 1024
+
+-- r is a link to a range with the spot x in its window, not above k, or 0
+pub record Hit (ts xs : List ℕ) (x k r : ℕ) : Type 0 where
+  pub low : r ≤ k
+  pub hit : 0 < r → windowIn (getD ts (r - 1) 0) (getD xs (r - 1) 0) (x / 4294967296) (x % 4294967296) ≡ true
 
 -- each link of the entries below k leads to a lower entry
 pub record Falls (ns : List ℕ) (k : ℕ) : Type 0 where
@@ -62,9 +68,9 @@ pub record Found (ts xs ns : List ℕ) (x k r : ℕ) : Type 0 where
   pub hit : 0 < r → windowIn (getD ts (r - 1) 0) (getD xs (r - 1) 0) (x / 4294967296) (x % 4294967296) ≡ true
   pub none : r ≡ 0 → (m : ℕ) → Walk ns (outsideAt ts xs x) m k → allBelow (outsideAt ts xs x) m ≡ true
 
--- r is the link to a range with the spot x in its window, or 0 where the walk along the chain of its backing finds none
-pub record Met (ts xs hs ns : List ℕ) (x r : ℕ) : Type 0 where
-  pub hinted : Hinted ts hs ns r
+-- r is a link to one of the n ranges with the spot x in its window, or 0 where the walk along the chain of its backing finds none
+pub record Met (ts xs hs ns : List ℕ) (n x r : ℕ) : Type 0 where
+  pub low : r ≤ n
   pub none : r ≡ 0 → allBelow (outsideAt ts xs x) (getD hs (x / 4294967296 % 1024) 0) ≡ true
   pub some : 0 < r → allBelow (outsideAt ts xs x) (getD hs (x / 4294967296 % 1024) 0) ≡ false
 
@@ -121,47 +127,36 @@ module _ (ts xs hs ns : List ℕ) (n : ℕ) (C : Chained ts n hs ns) where
   met-by x r h l e =
       walk-windows (x / 4294967296) (x % 4294967296) .same ∙ sym (below-fails (outsideAt ts xs x) n (r - 1) (omega arith) (ap not e))
 
-module _ (ts xs hs ns : List ℕ) (x hint : ℕ) (H : Hinted ts hs ns hint) where
-  -- the walk may begin at the hint, and at the head of the chain
-  pub hint-falls : (hint ≤ 512) × Falls ns hint
-  hint-falls = let l = H .low in let f = H .few in (omega arith, falls ts xs hs ns (H .count) (H .chained) hint l)
+module _ (ts xs hs ns : List ℕ) (n x hint : ℕ) (H : Hinted ts hs ns n hint) where
+  -- the walk may begin at a link, and at the head of the chain
+  pub link-falls : (k : ℕ) → k ≤ n → Falls ns k
+  link-falls k l = falls ts xs hs ns n (H .chained) k l
 
-  head-low : getD hs (x / 4294967296 % 1024) 0 ≤ H .count
-  head-low = walk-windows ts xs hs ns (H .count) (H .chained) (x / 4294967296) (x % 4294967296) .low
+  pub head-low : getD hs (x / 4294967296 % 1024) 0 ≤ n
+  head-low = walk-windows ts xs hs ns n (H .chained) (x / 4294967296) (x % 4294967296) .low
 
-  pub head-falls : (getD hs (x / 4294967296 % 1024) 0 ≤ 512) × Falls ns (getD hs (x / 4294967296 % 1024) 0)
-  head-falls = let f = H .few in (omega (arith, head-low), falls ts xs hs ns (H .count) (H .chained) (getD hs (x / 4294967296 % 1024) 0) head-low)
+  met : (r : ℕ) → r ≤ n → (r ≡ 0 → allBelow (outsideAt ts xs x) (getD hs (x / 4294967296 % 1024) 0) ≡ true)
+      → (0 < r → windowIn (getD ts (r - 1) 0) (getD xs (r - 1) 0) (x / 4294967296) (x % 4294967296) ≡ true) → Met ts xs hs ns n x r
+  met r l z e = record { low = l; none = z; some = λ h. met-by ts xs hs ns n (H .chained) x r h l (e h) }
 
-  met : (r : ℕ) → r ≤ H .count → (r ≡ 0 → allBelow (outsideAt ts xs x) (getD hs (x / 4294967296 % 1024) 0) ≡ true)
-      → (0 < r → windowIn (getD ts (r - 1) 0) (getD xs (r - 1) 0) (x / 4294967296) (x % 4294967296) ≡ true) → Met ts xs hs ns x r
-  met r l z e =
-      record {
-        hinted = record { count = H .count; few = H .few; chained = H .chained; low = l };
-        none = z;
-        some = λ h. met-by ts xs hs ns (H .count) (H .chained) x r h l (e h);
-      }
+  pub met-hit : (k r : ℕ) → k ≤ n → Hit ts xs x k r → 0 < r → Met ts xs hs ns n x r
+  met-hit k r l F h = let b = F .low in met r (omega arith) (λ z. absurd (omega arith)) (F .hit)
 
-  pub met-near : (r : ℕ) → Found ts xs ns x hint r → 0 < r → Met ts xs hs ns x r
-  met-near r F h = let l = H .low in let b = F .low in met r (omega arith) (λ z. absurd (omega arith)) (F .hit)
-
-  pub met-head : (r : ℕ) → Found ts xs ns x (getD hs (x / 4294967296 % 1024) 0) r → Met ts xs hs ns x r
+  pub met-head : (r : ℕ) → Found ts xs ns x (getD hs (x / 4294967296 % 1024) 0) r → Met ts xs hs ns n x r
   met-head r F =
       let b = F .low in
-      let W = walk-windows ts xs hs ns (H .count) (H .chained) (x / 4294967296) (x % 4294967296) in
+      let W = walk-windows ts xs hs ns n (H .chained) (x / 4294967296) (x % 4294967296) in
       met r (omega (arith, head-low))
-      (λ z. F .none z (getD hs (x / 4294967296 % 1024) 0) (walk-here ns (outsideAt ts xs x) (H .count) (getD hs (x / 4294967296 % 1024) 0) W)) (F .hit)
+      (λ z. F .none z (getD hs (x / 4294967296 % 1024) 0) (walk-here ns (outsideAt ts xs x) n (getD hs (x / 4294967296 % 1024) 0) W)) (F .hit)
 
 -- ---- all frames
-pub hinted-none : (ts hs ns : List ℕ) → TagChains ts hs ns → Hinted ts hs ns 0
-hinted-none ts hs ns T = record { count = T .count; few = T .few; chained = T .chained; low = omega arith }
-
 module _ (ts xs hs ss : List ℕ) (f : ℕ) where
   pub walked-free : getD ss f 0 / 4294967296 ≤ 0 → walked? ts xs hs (placeAt (spotted ss) f) ≡ true
   walked-free h =
       let e : getD ss f 0 / 4294967296 ≡ 0 = omega arith in
       ap (walked? ts xs hs) (spot-at ss f) ∙ rw (eq-eqb (getD ss f 0 / 4294967296) 0 e)
 
-  module _ (ns : List ℕ) (r : ℕ) (M : Met ts xs hs ns (getD ss f 0) r) (u : 0 < getD ss f 0 / 4294967296) where
+  module _ (ns : List ℕ) (n r : ℕ) (M : Met ts xs hs ns n (getD ss f 0) r) (u : 0 < getD ss f 0 / 4294967296) where
     pub walked-met : (r ≡ 0 → ⊥) → walked? ts xs hs (placeAt (spotted ss) f) ≡ true
     walked-met h =
         let z : eqb (getD ss f 0 / 4294967296) 0 ≡ false = ne-eqb (getD ss f 0 / 4294967296) 0 (λ e. omega arith) in
@@ -206,8 +201,11 @@ module _ (l : List PageRange) (ts xs : List ℕ) (n : ℕ) (m : n ≤ length l) 
 
   module _ (hs ns : List ℕ) (C : Chained ts n hs ns) where
     -- what the walk answers is what all windows answer
+    pub walk-named : (b i : ℕ) → named b i (rangesOf (take n l)) ≡ not (allBelow (outside ts xs b i) (getD hs (b % 1024) 0))
+    walk-named b i = rw (windows-told b i n (le-refl n), walk-windows ts xs hs ns n C b i .same)
+
     window-walked : (p : Place) → walked? ts xs hs p ≡ window? (rangesOf (take n l)) p
-    window-walked p = rw (windows-told (p .backing) (p .index) n (le-refl n), walk-windows ts xs hs ns n C (p .backing) (p .index) .same)
+    window-walked p = rw (walk-named (p .backing) (p .index))
 
     pub walks-windows : (ps : List Place) (k : ℕ) → allBelow (λ f. walked? ts xs hs (placeAt ps f)) k ≡ allBelow (λ f. window? (rangesOf (take n l)) (placeAt ps f)) k
     walks-windows ps k = λ j. allBelow (λ f. window-walked (placeAt ps f) j) k

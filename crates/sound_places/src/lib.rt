@@ -2,38 +2,31 @@
 // Any columns may come in; chains must be those of the columns.
 ghost use mathlib.Core.Path.{_≡_};
 ghost use mathlib.Core.Bool.{true, _&&_};
-ghost use Prim.Native.Nat.{ℕ, _/_, _%_, _^_, _≤_, _<_};
+ghost use Prim.Native.Nat.{ℕ, _/_, _%_, _^_, _≤_, _<_, max};
 ghost use lib.Dec.{ltb, eqb};
-ghost use lib.ListN.{getD, length, replicate};
+ghost use lib.ListN.{drop, getD, length, replicate, take};
 ghost use Rattle.lists.specs.Test.{pick};
 ghost use Rattle.lists.specs.Every.{allBelow};
 ghost use Rattle.places.specs.Places.{placeAt};
 ghost use Rattle.chains.specs.Walk.{Walk};
 ghost use Rattle.columns.specs.Columns.{spotOf, spotted};
-ghost use Rattle.sound_places.specs.Alone.{apartFrom, keyOf, Keys, SpotChains, SpotLinks};
-ghost use Rattle.sound_places.specs.Windows.{walked?, windowIn, Falls, Found, Hinted, Met, TagChains};
+ghost use Rattle.sound_places.specs.Alone.{apartFrom, keyOf, SpotChains};
+ghost use Rattle.sound_places.specs.Windows.{walked?, windowIn, Falls, Found, Hinted, Hit, Met, Wide};
 ghost use Rattle.sound_places.specs.Seats.{seatedAt};
 ghost use Rattle.store.specs.Sound.{alone?, idle?, bit?, same, stands?};
 
 // Whether the spot x lies in the window of a range, by its tag and its span.
-pub fn in_window(tag: usize, span: u64, x: u64) -> bool
+pub fn in_window(tag: u64, span: u64, x: u64) -> bool
     ensures { λ q. ⌜ q ≡ windowIn tag span (x / 4294967296) (x % 4294967296) ⌝ }
 {
     let offset = span / 4294967296;
     let at = x % 4294967296;
-    (((x / 4294967296) as usize) == tag % 4294967296)
-        & ((offset <= at) & (at < offset + span % 4294967296))
+    (x / 4294967296 == tag % 4294967296) & ((offset <= at) & (at < offset + span % 4294967296))
 }
 
 // The first link, from link k on along its chain, to a range that has the spot x in its window; or 0.
-pub fn window_from(
-    tags: &[usize; 1024],
-    spans: &[u64; 512],
-    next: &[u32; 1024],
-    k: usize,
-    x: u64,
-) -> usize
-    requires { ⌜ (k ≤ 512) × Falls (now next) k ⌝ }
+pub fn window_from(tags: &[u64], spans: &[u64], next: &[u32], k: usize, x: u64) -> usize
+    requires { ⌜ (k ≤ 512) × Falls (now next) k × (length (now tags) ≡ 512) × (length (now spans) ≡ 512) × (length (now next) ≡ 1024) ⌝ }
     ensures { λ r. ⌜ Found (now (tags .entry)) (now (spans .entry)) (now (next .entry)) x k r ⌝ }
 {
     let mut j: usize = k;
@@ -46,41 +39,148 @@ pub fn window_from(
     0
 }
 
-// A link to a range that has the spot x in its window, or 0 where there is none. Frames of one backing often stand in one window, or in that of the range
-// before: the chain is gone along from the link of the last frame, where that is a range of this backing, and from its head only if that finds nothing.
-pub fn frame_window(
-    tags: &[usize; 1024],
-    spans: &[u64; 512],
-    heads: &[u32; 1024],
-    next: &[u32; 1024],
+// The link k, if it is one to a range that has the spot x in its window; else 0.
+pub fn hit(tags: &[u64], spans: &[u64], k: usize, x: u64) -> usize
+    requires { ⌜ (k ≤ 512) × (length (now tags) ≡ 512) × (length (now spans) ≡ 512) ⌝ }
+    ensures { λ r. ⌜ Hit (now (tags .entry)) (now (spans .entry)) x k r ⌝ }
+{
+    if 0 < k {
+        if in_window(tags[k - 1], spans[k - 1], x) {
+            return k;
+        }
+    }
+    0
+}
+
+// How many ranges begin at or before page g of the line, by halving: of use as a guess, so only its bound is promised.
+fn begun(lines: &[u64], count: usize, g: u64) -> usize
+    requires { ⌜ count ≤ length (now lines) ⌝ }
+    ensures { λ r. ⌜ r ≤ count ⌝ }
+{
+    let mut lo: usize = 0;
+    let mut hi: usize = count;
+    while lo < hi {
+        let mid = lo + (hi - lo) / 2;
+        if lines[mid] <= g {
+            lo = mid + 1;
+            continue;
+        }
+        hi = mid;
+    }
+    lo
+}
+
+// A link to a range that has the spot x in its window, or 0: pieces of one range keep page and index apart by the same number, so the piece is looked for at the
+// page that x would be of the range at link k.
+fn guess(lines: &[u64], tags: &[u64], spans: &[u64], count: usize, k: usize, x: u64) -> usize
+    requires { ⌜ (0 < k) × (k ≤ count) × (count ≤ 512) × (length (now lines) ≡ 512) × (length (now tags) ≡ 512) × (length (now spans) ≡ 512) ⌝ }
+    ensures { λ r. ⌜ Hit (now (tags .entry)) (now (spans .entry)) x count r ⌝ }
+{
+    let offset = spans[k - 1] / 4294967296;
+    let g = lines[k - 1] % 1152921504606846976 + x % 4294967296;
+    if offset <= g {
+        let j = begun(lines, count, g - offset);
+        return hit(tags, spans, j, x);
+    }
+    0
+}
+
+// The same from link k on: the next of its chain, then the guess.
+fn near(
+    lines: &[u64],
+    tags: &[u64],
+    spans: &[u64],
+    next: &[u32],
+    count: usize,
+    k: usize,
+    x: u64,
+) -> usize
+    requires { ⌜ (0 < k) × (k ≤ count) × (count ≤ 512) × Falls (now next) k × (length (now lines) ≡ 512) × (length (now tags) ≡ 512) × (length (now spans) ≡ 512) × (length (now next) ≡ 1024) ⌝ }
+    ensures { λ r. ⌜ Hit (now (tags .entry)) (now (spans .entry)) x count r ⌝ }
+{
+    let low = hit(tags, spans, next[k - 1] as usize, x);
+    if 0 < low {
+        return low;
+    }
+    guess(lines, tags, spans, count, k, x)
+}
+
+// The link to begin at: the hint, if it is one to a range of the spot's backing, else the head of the chain.
+fn begin_at(tags: &[u64], hint: usize, head: usize, x: u64) -> usize
+    requires { ⌜ (hint ≤ 512) × (length (now tags) ≡ 512) ⌝ }
+    ensures { λ r. ⌜ (r ≤ max hint head) × (0 < head → 0 < r) ⌝ }
+{
+    if 0 < hint {
+        if tags[hint - 1] % 4294967296 == x / 4294967296 {
+            return hint;
+        }
+    }
+    head
+}
+
+// A link to a range that has the spot x in its window, or 0 where there is none, the hint not being such a link. What is found near the hint is found; else the
+// chain is gone along from its head.
+fn searched(
+    lines: &[u64],
+    tags: &[u64],
+    spans: &[u64],
+    heads: &[u32],
+    next: &[u32],
+    count: usize,
     hint: usize,
     x: u64,
 ) -> usize
-    requires { ⌜ Hinted (now tags) (now heads) (now next) hint ⌝ }
-    ensures { λ r. ⌜ Met (now (tags .entry)) (now (spans .entry)) (now (heads .entry)) (now (next .entry)) x r ⌝ }
+    requires { ⌜ Hinted (now tags) (now heads) (now next) count hint × Wide (now lines) (now tags) (now spans) (now heads) (now next) ⌝ }
+    ensures { λ r. ⌜ Met (now (tags .entry)) (now (spans .entry)) (now (heads .entry)) (now (next .entry)) count x r ⌝ }
 {
-    let backing = (x / 4294967296) as usize;
-    if 0 < hint {
-        if tags[hint - 1] % 4294967296 == backing {
-            let near = window_from(tags, spans, next, hint, x);
-            if 0 < near {
-                return near;
-            }
+    let head = heads[(x / 4294967296 % 1024) as usize] as usize;
+    let first = hit(tags, spans, head, x);
+    if 0 < first {
+        return first;
+    }
+    let k = begin_at(tags, hint, head, x);
+    if 0 < k {
+        let r = near(lines, tags, spans, next, count, k, x);
+        if 0 < r {
+            return r;
         }
     }
-    window_from(tags, spans, next, heads[backing % 1024] as usize, x)
+    window_from(tags, spans, next, head, x)
+}
+
+// The same for any hint: frames of one backing often stand in one window.
+pub fn frame_window(
+    lines: &[u64],
+    tags: &[u64],
+    spans: &[u64],
+    heads: &[u32],
+    next: &[u32],
+    count: usize,
+    hint: usize,
+    x: u64,
+) -> usize
+    requires { ⌜ Hinted (now tags) (now heads) (now next) count hint × Wide (now lines) (now tags) (now spans) (now heads) (now next) ⌝ }
+    ensures { λ r. ⌜ Met (now (tags .entry)) (now (spans .entry)) (now (heads .entry)) (now (next .entry)) count x r ⌝ }
+{
+    let r = hit(tags, spans, hint, x);
+    if 0 < r {
+        return r;
+    }
+    searched(lines, tags, spans, heads, next, count, hint, x)
 }
 
 // "Each vector entry lies in the window of some range that holds the vector." A free frame is no vector's entry.
 pub fn all_windows(
-    spots: &[u64; 1024],
+    spots: &[u64],
     frames: usize,
-    tags: &[usize; 1024],
-    spans: &[u64; 512],
-    heads: &[u32; 1024],
-    next: &[u32; 1024],
+    lines: &[u64],
+    tags: &[u64],
+    spans: &[u64],
+    heads: &[u32],
+    next: &[u32],
+    count: usize,
 ) -> bool
-    requires { ⌜ (frames ≤ 1024) × TagChains (now tags) (now heads) (now next) ⌝ }
+    requires { ⌜ (frames ≤ length (now spots)) × Hinted (now tags) (now heads) (now next) count 0 × Wide (now lines) (now tags) (now spans) (now heads) (now next) ⌝ }
     ensures { λ q. ⌜ q ≡ allBelow (λ f. walked? (now (tags .entry)) (now (spans .entry)) (now (heads .entry)) (placeAt (spotted (now (spots .entry))) f)) frames ⌝ }
 {
     let mut hint: usize = 0;
@@ -88,7 +188,7 @@ pub fn all_windows(
     while f < frames {
         let x = spots[f];
         if 0 < x / 4294967296 {
-            hint = frame_window(tags, spans, heads, next, hint, x);
+            hint = frame_window(lines, tags, spans, heads, next, count, hint, x);
             if hint == 0 {
                 return false;
             }
@@ -109,60 +209,37 @@ pub fn key(spot: u64, f: usize) -> usize
     (backing * 633 + spot % 4294967296) as usize
 }
 
-// The keys of all frames.
-pub fn keys(spots: &[u64; 1024], frames: usize, d: &mut [usize; 1024])
-    requires { ⌜ (frames ≤ 1024) × (length (now d) ≡ 1024) ⌝ }
-    ensures { λ _. ⌜ Keys (now (spots .entry)) frames (now (d .exit)) ⌝ }
-{
-    let mut f: usize = 0;
-    while f < frames {
-        d[f] = key(spots[f], f);
-        f += 1;
-    }
-}
-
-// The chains of all frames, by their keys.
-pub fn chain_frames(
-    spots: &[u64; 1024],
-    frames: usize,
-    heads: &mut [u32; 1024],
-    next: &mut [u32; 1024],
-)
-    requires { ⌜ (frames ≤ 1024) × (now heads ≡ replicate 1024 0) × (length (now next) ≡ 1024) ⌝ }
-    ensures { λ _. ⌜ SpotChains (now (spots .entry)) frames (now (heads .exit)) (now (next .exit)) ⌝ }
-{
-    let mut d = [0usize; 1024];
-    keys(spots, frames, &mut d);
-    chains::chain(&d, frames, heads, next);
-}
-
-// Whether no frame before frame f stands at its place: a walk along its chain.
-pub fn alone(spots: &[u64; 1024], next: &[u32; 1024], f: usize) -> bool
-    requires { ⌜ (f < 1024) × Walk (now next) (apartFrom (spotted (now spots)) f) f (getD (now next) f 0) ⌝ }
+// Whether no frame before frame f stands at its place: a walk along its chain, whose links stand behind 1,024 heads.
+pub fn alone(spots: &[u64], links: &[u32; 2048], f: usize) -> bool
+    requires { ⌜ (f < 1024) × Walk (drop 1024 (now links)) (apartFrom (spotted (now spots)) f) f (getD (drop 1024 (now links)) f 0) × (length (now spots) ≡ 1024) ⌝ }
     ensures { λ q. ⌜ q ≡ alone? (spotted (now (spots .entry))) f ⌝ }
 {
     let x = spots[f];
     if x / 4294967296 == 0 {
         return true;
     }
-    let mut g = next[f] as usize;
+    let mut g = links[1024 + f] as usize;
     while 0 < g {
         if spots[g - 1] == x {
             return false;
         }
-        g = next[g - 1] as usize;
+        g = links[1024 + (g - 1)] as usize;
     }
     true
 }
 
-// "Each frame is free or stands in exactly one backing at one index, no two at the same."
-pub fn all_alone(spots: &[u64; 1024], next: &[u32; 1024], frames: usize) -> bool
-    requires { ⌜ (frames ≤ 1024) × SpotLinks (now spots) frames (now next) ⌝ }
-    ensures { λ q. ⌜ q ≡ allBelow (alone? (spotted (now (spots .entry)))) frames ⌝ }
+// "Each frame is free or stands in exactly one backing at one index, no two at the same." Frames are chained by their keys on the way, each compared with those of
+// its chain before it.
+pub fn chain_frames(spots: &[u64], frames: usize, links: &mut [u32; 2048]) -> bool
+    requires { ⌜ (frames ≤ 1024) × (length (now spots) ≡ 1024) × (now links ≡ replicate 2048 0) ⌝ }
+    ensures { λ q. ⌜ (q ≡ allBelow (alone? (spotted (now (spots .entry)))) frames) × (q ≡ true → SpotChains (now (spots .entry)) frames (take 1024 (now (links .exit))) (drop 1024 (now (links .exit)))) × (length (now (links .exit)) ≡ 2048) ⌝ }
 {
     let mut f: usize = 0;
     while f < frames {
-        if alone(spots, next, f) {
+        let h = key(spots[f], f) % 1024;
+        links[1024 + f] = links[h];
+        links[h] = (f as u32) + 1;
+        if alone(spots, links, f) {
             f += 1;
         } else {
             return false;
@@ -172,14 +249,8 @@ pub fn all_alone(spots: &[u64; 1024], next: &[u32; 1024], frames: usize) -> bool
 }
 
 // Whether one of the frames stands at index 0 of backing b: a walk along the chain of that place.
-pub fn stands(
-    spots: &[u64; 1024],
-    heads: &[u32; 1024],
-    next: &[u32; 1024],
-    frames: usize,
-    b: u64,
-) -> bool
-    requires { ⌜ (frames ≤ 1024) × (0 < b) × (b < 4294967296) × SpotChains (now spots) frames (now heads) (now next) ⌝ }
+pub fn stands(spots: &[u64], heads: &[u32], next: &[u32], frames: usize, b: u64) -> bool
+    requires { ⌜ (frames ≤ 1024) × (0 < b) × (b < 4294967296) × SpotChains (now spots) frames (now heads) (now next) × (length (now spots) ≡ 1024) × (length (now heads) ≡ 1024) × (length (now next) ≡ 1024) ⌝ }
     ensures { λ q. ⌜ q ≡ stands? (spotted (now (spots .entry))) frames b 0 ⌝ }
 {
     let x = b * 4294967296;
@@ -194,32 +265,26 @@ pub fn stands(
 }
 
 // "A `Single` range has .. its frame at index 0", of the range with this tag. A range of another kind passes.
-pub fn seated(
-    spots: &[u64; 1024],
-    heads: &[u32; 1024],
-    next: &[u32; 1024],
-    frames: usize,
-    tag: usize,
-) -> bool
-    requires { ⌜ (frames ≤ 1024) × (0 < tag % 4294967296) × SpotChains (now spots) frames (now heads) (now next) ⌝ }
+pub fn seated(spots: &[u64], heads: &[u32], next: &[u32], frames: usize, tag: u64) -> bool
+    requires { ⌜ (frames ≤ 1024) × (0 < tag % 4294967296) × SpotChains (now spots) frames (now heads) (now next) × (length (now spots) ≡ 1024) × (length (now heads) ≡ 1024) × (length (now next) ≡ 1024) ⌝ }
     ensures { λ q. ⌜ q ≡ pick (eqb (tag / 4294967296) 1) (stands? (spotted (now (spots .entry))) frames (tag % 4294967296) 0) true ⌝ }
 {
     if tag / 4294967296 == 1 {
-        return stands(spots, heads, next, frames, (tag % 4294967296) as u64);
+        return stands(spots, heads, next, frames, tag % 4294967296);
     }
     true
 }
 
 // The same of every range.
 pub fn all_seated(
-    spots: &[u64; 1024],
-    heads: &[u32; 1024],
-    next: &[u32; 1024],
+    spots: &[u64],
+    heads: &[u32],
+    next: &[u32],
     frames: usize,
-    tags: &[usize; 1024],
+    tags: &[u64],
     count: usize,
 ) -> bool
-    requires { ⌜ (frames ≤ 1024) × (count ≤ 512) × SpotChains (now spots) frames (now heads) (now next) × ((i : ℕ) → i < count → 0 < getD (now tags) i 0 % 4294967296) ⌝ }
+    requires { ⌜ (frames ≤ 1024) × (count ≤ length (now tags)) × SpotChains (now spots) frames (now heads) (now next) × ((i : ℕ) → i < count → 0 < getD (now tags) i 0 % 4294967296) × (length (now spots) ≡ 1024) × (length (now heads) ≡ 1024) × (length (now next) ≡ 1024) ⌝ }
     ensures { λ q. ⌜ q ≡ allBelow (seatedAt (now (tags .entry)) (spotted (now (spots .entry))) frames) count ⌝ }
 {
     let mut i: usize = 0;
@@ -249,7 +314,8 @@ pub fn bit(word: u64, x: u64, frames: usize, f: usize) -> bool
 
 // "a map of free frames, one bit each"; "bits of frames beyond the count are clear"; "unused slots are zero": the places of free frames and of frames
 // beyond the count.
-pub fn all_bits(free: [u64; 16], spots: &[u64; 1024], frames: usize) -> bool
+pub fn all_bits(free: [u64; 16], spots: &[u64], frames: usize) -> bool
+    requires { ⌜ length (now spots) ≡ 1024 ⌝ }
     ensures { λ q. ⌜ q ≡ allBelow (λ f. idle? frames f (placeAt (spotted (now (spots .entry))) f) && bit? frames (spotted (now (spots .entry))) free f) 1024 ⌝ }
 {
     let mut i: usize = 0;

@@ -5,15 +5,15 @@ ghost use mathlib.Core.Path.{_≡_};
 ghost use mathlib.Core.Bool.{true, _&&_};
 ghost use Prim.Native.Nat.{_+_, _≤_, _<_};
 ghost use lib.Dec.{leb};
-ghost use lib.ListN.{length, getD, take, drop};
-ghost use Rattle.lists.specs.Every.{allBelow, every};
+ghost use lib.ListN.{length, getD};
+ghost use Rattle.lists.specs.Every.{allBelow};
 ghost use Rattle.ranges.specs.Range.{from};
 ghost use Rattle.table.specs.Table.{rangeOf};
 ghost use Rattle.chains.specs.Chains.{Linked};
 ghost use Rattle.chains.specs.Walk.{Walk};
-ghost use Rattle.columns.specs.Ranges.{Spans, Tags};
 ghost use Rattle.sound_ranges.specs.Agree.{alikeIn, alikeTo};
-ghost use Rattle.sound_ranges.specs.Shape.{shapedKind?, shaped?, rises?};
+ghost use Rattle.sound_ranges.specs.Shape.{shapedKind?, shaped?};
+ghost use Rattle.sound_ranges.specs.Slots.{slot?, slots?, Loaded};
 ghost use Rattle.store.specs.Abs.{liveBit};
 ghost use Rattle.store.specs.Sound.{isNothing?, zero?};
 
@@ -72,79 +72,6 @@ pub fn follows(r: PageRange, live: u32, low: usize) -> bool
     false
 }
 
-// The same of every range of the table: "overlaps no other of its object"; "Ranges stand in the table by object, then start": on the line of all
-// pages each range begins at or after the end of the one before it. What later tests ask of the table is put into columns on the way.
-pub fn all_shaped(
-    ranges: [PageRange; 512],
-    count: usize,
-    live: u32,
-    tags: &mut [usize; 1024],
-    spans: &mut [u64; 512],
-) -> bool
-    requires { ⌜ (count ≤ 512) × (length (now tags) ≡ 1024) × (length (now spans) ≡ 512) ⌝ }
-    ensures { λ q. ⌜ (q ≡ rises? live 0 (take count ranges)) × (q ≡ true → (Tags ranges count (now (tags .exit))) × (Spans ranges count (now (spans .exit)))) ⌝ }
-{
-    let mut low: usize = 0;
-    let mut i: usize = 0;
-    while i < count {
-        let r = ranges[i];
-        if follows(r, live, low) {
-            let k = r.backing;
-            tags[i] = columns::tag(k);
-            spans[i] = columns::span(r);
-            low = r.end();
-            i += 1;
-        } else {
-            return false;
-        }
-    }
-    true
-}
-
-// Two backings of one number, by their tags, are of one kind.
-pub fn same_kind(x: usize, y: usize) -> bool
-    ensures { λ q. ⌜ q ≡ alikeIn x y ⌝ }
-{
-    (x < 4294967296) | ((y < 4294967296) | ((x == y) | (x % 4294967296 != y % 4294967296)))
-}
-
-// The backing of range i agrees with that of every range before it, where those agree: a walk along its chain to the first of its own backing.
-pub fn agrees(tags: &[usize; 1024], next: &[u32; 1024], i: usize) -> bool
-    requires { ⌜ (i < 1024) × Walk (now next) (alikeTo (now tags) i) i (getD (now next) i 0) × (allBelow (λ j. allBelow (alikeTo (now tags) j) j) i ≡ true) ⌝ }
-    ensures { λ q. ⌜ q ≡ allBelow (alikeTo (now (tags .entry)) i) i ⌝ }
-{
-    let y = tags[i];
-    let mut k = next[i] as usize;
-    while 0 < k {
-        let x = tags[k - 1];
-        if x == y {
-            return true;
-        }
-        if same_kind(x, y) {
-            k = next[k - 1] as usize;
-        } else {
-            return false;
-        }
-    }
-    true
-}
-
-// "Ranges that hold one backing agree on its kind."
-pub fn all_agree(tags: &[usize; 1024], next: &[u32; 1024], count: usize) -> bool
-    requires { ⌜ (count ≤ 512) × (Linked (now tags) count (now next)) ⌝ }
-    ensures { λ q. ⌜ q ≡ allBelow (λ i. allBelow (alikeTo (now (tags .entry)) i) i) count ⌝ }
-{
-    let mut i: usize = 0;
-    while i < count {
-        if agrees(tags, next, i) {
-            i += 1;
-        } else {
-            return false;
-        }
-    }
-    true
-}
-
 // Whether there is no backing.
 pub fn is_nothing(k: BackingPages) -> bool
     ensures { λ q. ⌜ q ≡ isNothing? k ⌝ }
@@ -165,15 +92,78 @@ pub fn zero_slot(r: PageRange) -> bool
     (r.object == 0) & ((r.start.0 == 0) & ((r.length == 0) & ((r.offset == 0) & t)))
 }
 
-// "from slot 0; unused slots are zero"
-pub fn rest_zero(ranges: [PageRange; 512], count: usize) -> bool
-    requires { ⌜ count ≤ 512 ⌝ }
-    ensures { λ q. ⌜ q ≡ every zero? (drop count ranges) ⌝ }
+// A slot of the table: a used one has a range that begins at or after page `low` of the line; "unused slots are zero".
+pub fn slot(r: PageRange, used: bool, live: u32, low: usize) -> bool
+    ensures { λ q. ⌜ q ≡ slot? live used low r ⌝ }
 {
-    let mut i: usize = count;
+    if used {
+        return follows(r, live, low);
+    }
+    zero_slot(r)
+}
+
+// The same of every slot: "overlaps no other of its object"; "Ranges stand in the table by object, then start, from slot 0": on the line of all pages each
+// range begins at or after the end of the one before it. The table is put into a sheet on the way.
+pub fn load_ranges(
+    ranges: [PageRange; 512],
+    count: usize,
+    live: u32,
+    sheet: &mut [u64; 2579],
+) -> bool
+    requires { ⌜ (count ≤ 512) × (length (now sheet) ≡ 2579) ⌝ }
+    ensures { λ q. ⌜ (q ≡ slots? live ranges count 0 0) × (q ≡ true → Loaded ranges (now (sheet .entry)) (now (sheet .exit))) ⌝ }
+{
+    let mut low: usize = 0;
+    let mut i: usize = 0;
     while i < 512 {
         let r = ranges[i];
-        if zero_slot(r) {
+        if slot(r, i < count, live, low) {
+            sheet::set_range(sheet, i, r);
+            low = r.end();
+            i += 1;
+        } else {
+            return false;
+        }
+    }
+    true
+}
+
+// Two backings of one number, by their tags, are of one kind.
+pub fn same_kind(x: u64, y: u64) -> bool
+    ensures { λ q. ⌜ q ≡ alikeIn x y ⌝ }
+{
+    (x < 4294967296) | ((y < 4294967296) | ((x == y) | (x % 4294967296 != y % 4294967296)))
+}
+
+// The backing of range i agrees with that of every range before it, where those agree: a walk along its chain to the first of its own backing.
+pub fn agrees(tags: &[u64], next: &[u32], i: usize) -> bool
+    requires { ⌜ (i < length (now tags)) × Walk (now next) (alikeTo (now tags) i) i (getD (now next) i 0) × (allBelow (λ j. allBelow (alikeTo (now tags) j) j) i ≡ true) × (length (now tags) ≤ length (now next)) × (length (now next) ≤ 1024) ⌝ }
+    ensures { λ q. ⌜ q ≡ allBelow (alikeTo (now (tags .entry)) i) i ⌝ }
+{
+    let y = tags[i];
+    let mut k = next[i] as usize;
+    while 0 < k {
+        let x = tags[k - 1];
+        if x == y {
+            return true;
+        }
+        if same_kind(x, y) {
+            k = next[k - 1] as usize;
+        } else {
+            return false;
+        }
+    }
+    true
+}
+
+// "Ranges that hold one backing agree on its kind."
+pub fn all_agree(tags: &[u64], next: &[u32], count: usize) -> bool
+    requires { ⌜ (count ≤ length (now tags)) × (Linked (now tags) count (now next)) × (length (now tags) ≤ length (now next)) × (length (now next) ≤ 1024) ⌝ }
+    ensures { λ q. ⌜ q ≡ allBelow (λ i. allBelow (alikeTo (now (tags .entry)) i) i) count ⌝ }
+{
+    let mut i: usize = 0;
+    while i < count {
+        if agrees(tags, next, i) {
             i += 1;
         } else {
             return false;

@@ -1,22 +1,16 @@
 -- `rows::begin_before` meets its contract, as `table::begin_before`.
 use borrow.Author.Needs.{needs}
 use native.Mathlib.Omega.{arith}
-use mathlib.Core.Path.{_≡_, refl, ap, sym, _∙_}
-use Prim.Native.Nat.{ℕ, _+_, _-_, _*_, _/_, _≤_, _<_}
+use mathlib.Core.Path.{_≡_, ap, _∙_}
+use Prim.Native.Nat.{ℕ, _+_, _-_, _/_, _≤_, _<_}
 use Rattle.sheet.specs.Sheet.{storeOf, rangeAt}
-use Rattle.table.specs.Searching.{BegunIs, low-more, high-more, starts-found}
+use Rattle.table.specs.Searching.{low-more, high-more, starts-found}
 use borrow.Author.Count.{below-none}
-use Rattle.table.specs.Table.{ranged, zeroRange, Small}
+use Rattle.table.specs.Table.{ranged, zeroRange}
 use Rattle.ranges.specs.Range.{from}
 use lib.ListN.{getD}
 use Rattle.rows.proofs.begin_before.Statement.{statement}
 use Rattle.rows.proofs.begin_before.Tie as tie
-use Rattle.rows.proofs.begin_before.Reads as reads
-use Rattle.rows.proofs.begin_before.Lts as lts
-use Rattle.sheet.proofs.count.Reads as count-reads
-use Rattle.sheet.proofs.range.Reads as range-reads
-use Rattle.table.proofs.PageRange.first.Reads as first-reads
-use Rattle.table.proofs.zero_range.Reads as zero-range-reads
 
 abbrev Inv-loop : tie.InvT-loop
 Inv-loop sheet g n lo₀ hi₀ lo hi = (lo ≤ hi) × (hi ≤ storeOf sheet .count) × ((k : ℕ) → k < lo → from (ranged (rangeAt (storeOf sheet) k)) < g)

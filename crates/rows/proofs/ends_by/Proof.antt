@@ -1,15 +1,11 @@
+-- `rows::ends_by` meets its contract, as `table::ends_by`.
 use native.Mathlib.Omega.{arith}
 use borrow.Author.Needs.{needs}
-use Prim.Native.Nat.{ℕ, _+_, _-_, _*_, _/_, _≤_, _<_}
-use Rattle.sheet.specs.Sheet.{storeOf, rangeAt}
-use Rattle.table.specs.Table.{ranged}
+use Prim.Native.Nat.{_-_}
+use Rattle.sheet.specs.Sheet.{storeOf}
 use Rattle.table.specs.Searching.{starts-count, no-ends, ends-before, ends-there}
 use Rattle.rows.proofs.ends_by.Statement.{statement}
 use Rattle.rows.proofs.ends_by.Tie as tie
-use Rattle.rows.proofs.ends_by.Reads as reads
-use Rattle.rows.proofs.ends_by.Lts as lts
-use Rattle.rows.proofs.begin_before.Reads as begin-before-reads
-use Rattle.table.proofs.PageRange.end.Reads as end-reads
 
 begin-before-requires : tie.Need-begin-before-requires
 begin-before-requires c κs = search needs

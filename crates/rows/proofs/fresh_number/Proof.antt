@@ -1,10 +1,9 @@
 -- `rows::fresh_number` meets its contract: the numbers below n are held.
 use borrow.Author.Needs.{needs}
 use native.Mathlib.Omega.{arith}
-use mathlib.Core.Path.{_≡_, refl, ap, sym, _∙_}
-use Prim.Native.Nat.{ℕ, _+_, _-_, _*_, _/_, _≤_, _<_}
-use Rattle.sheet.specs.Sheet.{storeOf, rangeAt}
-use lib.ListN.{getD, length, replicate}
+use mathlib.Core.Path.{_≡_, ap, sym, _∙_}
+use Prim.Native.Nat.{_+_, _-_, _≤_}
+use Rattle.sheet.specs.Sheet.{storeOf}
 use Rattle.sheet.specs.Edits.{storeOf-sized}
 use Rattle.store.specs.Abs.{used}
 use Rattle.ranges.specs.Table.{fresh, freshFrom}
@@ -13,10 +12,6 @@ use Rattle.table.specs.Holding.{fresh-start, fresh-hit, fresh-turn, fresh-end, 
 use Rattle.rows.specs.Rows.{held-start, held-none, held-some}
 use Rattle.rows.proofs.fresh_number.Statement.{statement}
 use Rattle.rows.proofs.fresh_number.Tie as tie
-use Rattle.rows.proofs.fresh_number.Reads as reads
-use Rattle.rows.proofs.fresh_number.Lts as lts
-use Rattle.rows.proofs.mark.Reads as mark-reads
-use Rattle.sheet.proofs.count.Reads as count-reads
 
 abbrev Inv-loop : tie.InvT-loop
 Inv-loop sheet marks m n₀ n = (1 ≤ n) × (n ≤ storeOf sheet .count + 1) × (freshFrom (storeOf sheet .count + 1 - n) n (rangesOf (used (storeOf sheet))) ≡ fresh (rangesOf (used (storeOf sheet))))

@@ -1,7 +1,8 @@
+-- `rows::has_window` meets its contract: no range looked at so far has the index in its window.
 use borrow.Author.Needs.{needs}
 use native.Mathlib.Omega.{arith}
 use mathlib.Core.Path.{_≡_, refl, ap, sym, _∙_}
-use Prim.Native.Nat.{ℕ, _+_, _-_, _*_, _/_, _≤_, _<_}
+use Prim.Native.Nat.{_-_, _≤_}
 use Rattle.sheet.specs.Sheet.{storeOf, rangeAt}
 use mathlib.Core.Bool.{true, false}
 use Rattle.sheet.specs.Edits.{storeOf-sized}
@@ -11,11 +12,6 @@ use Rattle.table.specs.Table.{rangeOf}
 use Rattle.table.specs.declared.PageRange.{PageRange}
 use Rattle.rows.proofs.has_window.Statement.{statement}
 use Rattle.rows.proofs.has_window.Tie as tie
-use Rattle.rows.proofs.has_window.Reads as reads
-use Rattle.rows.proofs.has_window.Lts as lts
-use Rattle.sheet.proofs.count.Reads as count-reads
-use Rattle.sheet.proofs.range.Reads as range-reads
-use Rattle.table.proofs.in_window.Reads as in-window-reads
 
 abbrev Inv-loop : tie.InvT-loop
 Inv-loop sheet b i n k₀ k = (k ≤ storeOf sheet .count)

@@ -1,7 +1,8 @@
+-- `rows::holder_count` meets its contract: those counted and those left are all holders.
 use borrow.Author.Needs.{needs}
 use native.Mathlib.Omega.{arith}
-use mathlib.Core.Path.{_≡_, refl, ap, sym, _∙_}
-use Prim.Native.Nat.{ℕ, _+_, _-_, _*_, _/_, _≤_, _<_}
+use mathlib.Core.Path.{_≡_, ap, _∙_}
+use Prim.Native.Nat.{_+_, _-_, _≤_}
 use Rattle.sheet.specs.Sheet.{storeOf, rangeAt}
 use Rattle.sheet.specs.Edits.{storeOf-sized}
 use Rattle.table.specs.Holding.{left, holders-hit, holders-miss, holders-end}
@@ -10,11 +11,6 @@ use Rattle.table.specs.Table.{numberOf}
 use Rattle.table.specs.declared.PageRange.{PageRange}
 use Rattle.rows.proofs.holder_count.Statement.{statement}
 use Rattle.rows.proofs.holder_count.Tie as tie
-use Rattle.rows.proofs.holder_count.Reads as reads
-use Rattle.rows.proofs.holder_count.Lts as lts
-use Rattle.sheet.proofs.count.Reads as count-reads
-use Rattle.sheet.proofs.range.Reads as range-reads
-use Rattle.table.proofs.number.Reads as number-reads
 
 abbrev Inv-loop : tie.InvT-loop
 Inv-loop sheet b m n₀ i₀ n i = (i ≤ storeOf sheet .count) × (n ≤ i)

@@ -1,8 +1,8 @@
 -- `rows::mark` meets its contract: from the last range to the first, each marks its number.
 use borrow.Author.Needs.{needs}
 use native.Mathlib.Omega.{arith}
-use mathlib.Core.Path.{_≡_, refl, ap, sym, _∙_}
-use Prim.Native.Nat.{ℕ, _+_, _-_, _*_, _/_, _≤_, _<_}
+use mathlib.Core.Path.{_≡_, ap, _∙_}
+use Prim.Native.Nat.{_-_, _≤_}
 use Rattle.sheet.specs.Sheet.{storeOf, rangeAt}
 use lib.ListN.{length, length-set}
 use Rattle.sheet.specs.Edits.{storeOf-sized}
@@ -12,11 +12,6 @@ use Rattle.table.specs.declared.PageRange.{PageRange}
 use Rattle.rows.specs.Rows.{Held, held-first, held-next, held-end}
 use Rattle.rows.proofs.mark.Statement.{statement}
 use Rattle.rows.proofs.mark.Tie as tie
-use Rattle.rows.proofs.mark.Reads as reads
-use Rattle.rows.proofs.mark.Lts as lts
-use Rattle.sheet.proofs.count.Reads as count-reads
-use Rattle.sheet.proofs.range.Reads as range-reads
-use Rattle.table.proofs.number.Reads as number-reads
 
 abbrev Inv-loop : tie.InvT-loop
 Inv-loop sheet marks₀ i₀ marks i = (i ≤ storeOf sheet .count) × (length marks ≡ 513) × Held (left (storeOf sheet .ranges) (storeOf sheet .count) i) marks

@@ -1,6 +1,8 @@
+use Prim.Native.Nat.{_<_}
+use mathlib.Core.Path.{refl}
 use lib.ListN.{length-set}
 -- `sheet::set_place` meets its contract.
-use Rattle.sheet.specs.Edits.{place-set}
+use Rattle.sheet.specs.Edits.{place-set, spot-made}
 use native.Mathlib.Omega.{arith}
 use borrow.Author.Needs.{needs}
 use Rattle.sheet.proofs.set_place.Statement.{statement}
@@ -28,7 +30,11 @@ element-write-sheet : tie.Need-element-write-sheet
 element-write-sheet c = search needs
 
 returns : tie.Need-returns
-returns c = (place-set _ (search needs) _ _ (search needs) (search needs) (search needs), simp length-set (search needs))
+returns c =
+    let p = c .before .before .args .p in
+    let b : p .backing < 4294967296 = search needs in
+    let i : p .index < 4294967296 = search needs in
+    (place-set _ (search needs) _ p (search needs) b i, simp length-set (search needs), refl, spot-made p b i)
 
 pub set-place-spec : {M : Type 1} → statement M
 set-place-spec =

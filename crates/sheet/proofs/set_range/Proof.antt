@@ -59,7 +59,8 @@ returns : tie.Need-returns
 returns c =
     let r = c .before .before .before .before .args .r in
     let N : Narrow r = record { object = search needs; start = search needs; length = search needs; offset = search needs; backing = c .before .before .before .tag .ensures .1 } in
-    (rw (c .before .before .before .tag .ensures .0) (range-set _ (search needs) _ r (search needs) N), simp length-set (search needs))
+    let e = c .before .before .before .tag .ensures .0 in
+    (rw e (range-set _ (search needs) _ r (search needs) N), simp length-set (search needs), rw e, N)
 
 pub set-range-spec : {M : Type 1} → statement M
 set-range-spec =

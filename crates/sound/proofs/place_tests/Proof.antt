@@ -1,47 +1,50 @@
--- `sound::place_tests` meets its contract: its tests are the definition's.
-use mathlib.Core.Path.{_≡_}
+-- `sound::place_tests` meets its contract.
+use mathlib.Core.Path.{sym, _∙_}
+use mathlib.Core.Bool.{false≢true}
+use Rattle.sound.specs.Parts.{placed-none, placed-rest}
 use native.Mathlib.Omega.{arith}
 use borrow.Author.Needs.{needs}
-use lib.ListN.{length, length-map}
-use Rattle.sound_places.specs.Alone.{spot-links}
-use Rattle.sound.specs.Parts.{places-told}
 use Rattle.sound.proofs.place_tests.Statement.{statement}
 use Rattle.sound.proofs.place_tests.Tie as tie
 
-spots-requires : tie.Need-spots-requires
-spots-requires c κs = search needs
+sub-chain-frames : tie.Need-sub-chain-frames
+sub-chain-frames c = search needs
+
+part-chain-frames-start : tie.Need-part-chain-frames-start
+part-chain-frames-start c = search needs
+
+part-chain-frames-end : tie.Need-part-chain-frames-end
+part-chain-frames-end c = search needs
 
 chain-frames-requires : tie.Need-chain-frames-requires
 chain-frames-requires c κs = search needs
 
-all-bits-requires : tie.Need-all-bits-requires
-all-bits-requires c κs = search needs
-
-all-alone-requires : tie.Need-all-alone-requires
-all-alone-requires c κs = (c .before .before .before .before .before .before .before .before .before .before .before .before .pre .0, spot-links _ _ _ _ (c .before .before .before .before .chain-frames .ensures))
-
-all-seated-requires : tie.Need-all-seated-requires
-all-seated-requires c κs = (c .before .before .before .before .before .before .before .before .before .before .before .before .before .before .before .before .pre .0, c .before .before .before .before .before .before .before .before .before .before .before .before .before .before .before .before .pre .1, c .before .before .before .before .before .before .before .before .chain-frames .ensures, c .before .before .before .before .before .before .before .before .before .before .before .before .before .before .before .before .pre .2 .numbers)
-
-all-windows-requires : tie.Need-all-windows-requires
-all-windows-requires c κs = (c .before .before .before .before .before .before .before .before .before .before .before .before .before .before .before .before .before .before .pre .0, record { count = c .before .before .before .before .before .before .before .before .before .before .before .before .before .before .before .before .before .before .args .s .count; few = c .before .before .before .before .before .before .before .before .before .before .before .before .before .before .before .before .before .before .pre .1; chained = c .before .before .before .before .before .before .before .before .before .before .before .before .before .before .before .before .before .before .pre .2 .chained })
+rest-tests-requires : tie.Need-rest-tests-requires
+rest-tests-requires c κs =
+    let a = c .before .before .before .before .before .before .before .before .args in
+    let q = c .before .before .before .before .before .before .before .before .pre in
+    let f = c .before .before .before .chain-frames .ensures in
+    (q .0, q .1, q .2, f .2, f .1 (c .before .before .if1 .taken))
 
 returns : tie.Need-returns
 returns c =
-    let s = c .before .before .before .before .before .before .before .before .before .before .before .before .before .before .before .before .before .before .before .args .s in
-    let w : length (s .ranges) ≡ 512 = simp length-map at (c .before .before .before .before .before .before .before .before .before .before .before .before .before .before .before .before .before .before .before .good .0 .1 .1 .1 .1 .1 .0 .1 .0 .1) in
-    let C = c .before .before .before .before .before .before .before .before .before .before .before .before .before .before .before .before .before .before .before .pre .2 in
-    places-told s (omega (arith, c .before .before .before .before .before .before .before .before .before .before .before .before .before .before .before .before .before .before .before .pre .1)) _ (C .tags) _ _ _ _ (C .spans) (C .chained) (c .before .before .before .before .before .before .before .before .before .before .before .before .before .before .before .spots2 .ensures) _ _ _ _ (c .before .before .before .before .before .before .before .before .before .all-bits .ensures) (c .before .before .before .before .before .before .all-alone .ensures)
-    (c .before .before .all-seated .ensures) (c .all-windows .ensures)
+    let f = c .before .before .before .before .chain-frames .ensures in
+    let t = c .before .before .before .if1 .taken in
+    (placed-rest _ _ _ _ _ _ (sym (f .0) ∙ t) (c .rest-tests .ensures), λ _. f .1 t)
+
+returns-2 : tie.Need-returns-2
+returns-2 c =
+    let f = c .before .chain-frames .ensures in
+    (placed-none _ _ _ _ _ (sym (f .0) ∙ c .if1 .left), λ e. absurd (false≢true e))
 
 pub place-tests-spec : {M : Type 1} → statement M
 place-tests-spec =
     tie.close
     (tie.spec
-    spots-requires
+    sub-chain-frames
+    part-chain-frames-start
+    part-chain-frames-end
     chain-frames-requires
-    all-bits-requires
-    all-alone-requires
-    all-seated-requires
-    all-windows-requires
-    returns)
+    rest-tests-requires
+    returns
+    returns-2)

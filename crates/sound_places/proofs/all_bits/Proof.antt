@@ -15,7 +15,7 @@ abbrev μ-loop : tie.MeasureT-loop
 μ-loop spots frames free i₀ i = 1024 - i
 
 loop-holds : tie.Need-loop-holds Inv-loop μ-loop
-loop-holds c = let a = c .args in (search needs, below-zero (kept? (a .frames) (a .spots .now) (a .t1)))
+loop-holds c = let a = c .before .args in (search needs, below-zero (kept? (a .frames) (a .spots .now) (a .t1)))
 
 mul-w : tie.Need-mul-w Inv-loop μ-loop
 mul-w c = search needs
@@ -26,8 +26,8 @@ array-read-w c = search needs
 mul-bit : tie.Need-mul-bit Inv-loop μ-loop
 mul-bit c = search needs
 
-element-copy-out-bit : tie.Need-element-copy-out-bit Inv-loop μ-loop
-element-copy-out-bit c = search needs
+shared-slice-read-bit : tie.Need-shared-slice-read-bit Inv-loop μ-loop
+shared-slice-read-bit c = search needs
 
 bit-requires : tie.Need-bit-requires Inv-loop μ-loop
 bit-requires c κs = search needs
@@ -40,7 +40,7 @@ loop-less c = search needs
 
 loop-again : tie.Need-loop-again Inv-loop μ-loop
 loop-again c =
-    let a = c .before .before .before .before .before .args in
+    let a = c .before .before .before .before .before .before .args in
     let l = c .before .before .before .before .loop in
     let b = c .before .bit in
     let t = kept-at (a .frames) (a .spots .now) (a .t1) (l .i) (b .result) (b .ensures) ∙ c .if1 .taken in
@@ -48,7 +48,7 @@ loop-again c =
 
 returns : tie.Need-returns Inv-loop μ-loop
 returns c =
-    let a = c .before .before .before .before .before .args in
+    let a = c .before .before .before .before .before .before .args in
     let l = c .before .before .before .before .loop in
     let b = c .before .bit in
     let t = kept-at (a .frames) (a .spots .now) (a .t1) (l .i) (b .result) (b .ensures) ∙ c .if1 .left in
@@ -56,7 +56,7 @@ returns c =
 
 returns-2 : tie.Need-returns-2 Inv-loop μ-loop
 returns-2 c =
-    let a = c .before .before .args in
+    let a = c .before .before .before .args in
     let l = c .before .loop in
     below-done (kept? (a .frames) (a .spots .now) (a .t1)) 1024 (l .i) (l .inv .1) (search needs) (search needs)
 
@@ -70,7 +70,7 @@ all-bits-spec =
     mul-w
     array-read-w
     mul-bit
-    element-copy-out-bit
+    shared-slice-read-bit
     bit-requires
     add-i
     loop-less

@@ -16,16 +16,16 @@ abbrev μ-loop : tie.MeasureT-loop
 μ-loop spots heads next frames tags count i₀ i = count - i
 
 loop-holds : tie.Need-loop-holds Inv-loop μ-loop
-loop-holds c = let a = c .args in (search needs, below-zero (seatedAt (a .tags .now) (spotted (a .spots .now)) (a .frames)))
+loop-holds c = let a = c .before .before .before .before .args in (search needs, below-zero (seatedAt (a .tags .now) (spotted (a .spots .now)) (a .frames)))
 
 mul-seated : tie.Need-mul-seated Inv-loop μ-loop
 mul-seated c = search needs
 
-element-copy-out-seated : tie.Need-element-copy-out-seated Inv-loop μ-loop
-element-copy-out-seated c = search needs
+shared-slice-read-seated : tie.Need-shared-slice-read-seated Inv-loop μ-loop
+shared-slice-read-seated c = search needs
 
 seated-requires : tie.Need-seated-requires Inv-loop μ-loop
-seated-requires c κs = (search needs, c .before .before .before .pre .3 (c .before .before .loop .i) (search needs), c .before .before .before .pre .2)
+seated-requires c κs = (search needs, c .before .before .before .before .before .before .before .pre .3 (c .before .before .loop .i) (search needs), c .before .before .before .before .before .before .before .pre .2, search needs, search needs, search needs)
 
 add-i : tie.Need-add-i Inv-loop μ-loop
 add-i c = search needs
@@ -35,7 +35,7 @@ loop-less c = search needs
 
 loop-again : tie.Need-loop-again Inv-loop μ-loop
 loop-again c =
-    let a = c .before .before .before .before .before .args in
+    let a = c .before .before .before .before .before .before .before .before .before .args in
     let l = c .before .before .before .before .loop in
     let s = c .before .seated in
     let t = seat-at (a .tags .now) (spotted (a .spots .now)) (a .frames) (l .i) (s .result) true (s .ensures) (c .if1 .taken) in
@@ -43,7 +43,7 @@ loop-again c =
 
 returns : tie.Need-returns Inv-loop μ-loop
 returns c =
-    let a = c .before .before .before .before .before .args in
+    let a = c .before .before .before .before .before .before .before .before .before .args in
     let l = c .before .before .before .before .loop in
     let s = c .before .seated in
     let t = seat-at (a .tags .now) (spotted (a .spots .now)) (a .frames) (l .i) (s .result) false (s .ensures) (c .if1 .left) in
@@ -51,7 +51,7 @@ returns c =
 
 returns-2 : tie.Need-returns-2 Inv-loop μ-loop
 returns-2 c =
-    let a = c .before .before .args in
+    let a = c .before .before .before .before .before .before .args in
     let l = c .before .loop in
     below-done (seatedAt (a .tags .now) (spotted (a .spots .now)) (a .frames)) (a .count) (l .i) (l .inv .1) (search needs) (search needs)
 
@@ -63,7 +63,7 @@ all-seated-spec =
     μ-loop
     loop-holds
     mul-seated
-    element-copy-out-seated
+    shared-slice-read-seated
     seated-requires
     add-i
     loop-less

@@ -3,43 +3,41 @@ use mathlib.Core.Path.{_≡_}
 use mathlib.Core.Bool.{true}
 use mathlib.Core.Logic.{⊎-elim}
 use Prim.Native.Nat.{_-_, _≤_}
-use borrow.Author.Needs.{needs}
 use Rattle.lists.specs.Every.{allBelow, below-done, below-fails, below-next, below-zero}
 use Rattle.places.specs.Places.{placeAt}
 use Rattle.columns.specs.Columns.{spotted}
-use Rattle.sound_places.specs.Windows.{hinted-none, walked-free, walked-met, walked-none, walked?, Hinted}
+use Rattle.sound_places.specs.Windows.{walked-free, walked-met, walked-none, walked?, Hinted}
+use borrow.Author.Needs.{needs}
+use native.Mathlib.Omega.{arith}
 use Rattle.sound_places.proofs.all_windows.Statement.{statement}
 use Rattle.sound_places.proofs.all_windows.Tie as tie
 
 abbrev Inv-loop : tie.InvT-loop
-Inv-loop spots frames tags spans heads next hint₀ f₀ hint f = (f ≤ frames) × Hinted tags heads next hint × (allBelow (λ g. walked? tags spans heads (placeAt (spotted spots) g)) f ≡ true)
+Inv-loop spots frames lines tags spans heads next count hint₀ f₀ hint f = (f ≤ frames) × Hinted tags heads next count hint × (allBelow (λ g. walked? tags spans heads (placeAt (spotted spots) g)) f ≡ true)
 
 abbrev μ-loop : tie.MeasureT-loop
-μ-loop spots frames tags spans heads next hint₀ f₀ hint f = frames - f
+μ-loop spots frames lines tags spans heads next count hint₀ f₀ hint f = frames - f
 
 loop-holds : tie.Need-loop-holds Inv-loop μ-loop
 loop-holds c =
-    let a = c .args in (
-      search needs,
-      hinted-none (a .tags .now) (a .heads .now) (a .next .now) (c .pre .1),
-      below-zero (λ g. walked? (a .tags .now) (a .spans .now) (a .heads .now) (placeAt (spotted (a .spots .now)) g)),
-    )
+    let a = c .before .before .before .before .before .before .args in
+    (search needs, c .before .before .before .before .before .before .pre .1, below-zero (λ g. walked? (a .tags .now) (a .spans .now) (a .heads .now) (placeAt (spotted (a .spots .now)) g)))
 
 mul-x : tie.Need-mul-x Inv-loop μ-loop
 mul-x c = search needs
 
-element-copy-out-x : tie.Need-element-copy-out-x Inv-loop μ-loop
-element-copy-out-x c = search needs
+shared-slice-read-x : tie.Need-shared-slice-read-x Inv-loop μ-loop
+shared-slice-read-x c = search needs
 
 frame-window-requires : tie.Need-frame-window-requires Inv-loop μ-loop
-frame-window-requires c κs = c .before .before .before .loop .inv .1
+frame-window-requires c κs = search needs
 
 returns : tie.Need-returns Inv-loop μ-loop
 returns c =
-    let a = c .before .before .before .before .before .before .args in
+    let a = c .before .before .before .before .before .before .before .before .before .before .before .before .args in
     let l = c .before .before .before .before .before .loop in
     let w = c .before .frame-window in
-    let t = walked-none (a .tags .now) (a .spans .now) (a .heads .now) (a .spots .now) (l .f) (a .next .now) (w .result) (w .ensures) (c .before .before .if1 .taken) (c .if2 .taken) in
+    let t = walked-none (a .tags .now) (a .spans .now) (a .heads .now) (a .spots .now) (l .f) (a .next .now) (a .count) (w .result) (w .ensures) (c .before .before .if1 .taken) (c .if2 .taken) in
     below-fails (λ g. walked? (a .tags .now) (a .spans .now) (a .heads .now) (placeAt (spotted (a .spots .now)) g)) (a .frames) (l .f) (search needs) t
 
 add-f : tie.Need-add-f Inv-loop μ-loop
@@ -50,20 +48,21 @@ loop-less c = search needs
 
 loop-again : tie.Need-loop-again Inv-loop μ-loop
 loop-again c =
-    let a = c .before .before .before .before .args in
-    let l = c .before .before .before .loop in (
+    let a = c .before .before .before .before .before .before .before .before .before .before .args in
+    let l = c .before .before .before .loop in
+    let h = l .inv .1 in (
       search needs,
-      ⊎-elim (λ w. rw (w .3) (w .1 .ensures .hinted)) (λ w. rw (w .1) (l .inv .1)) (c .if1 .came),
+      ⊎-elim (λ w. rw (w .3) (record { few = h .few; chained = h .chained; low = w .1 .ensures .low })) (λ w. rw (w .1) (l .inv .1)) (c .if1 .came),
       below-next (λ g. walked? (a .tags .now) (a .spans .now) (a .heads .now) (placeAt (spotted (a .spots .now)) g)) (l .f) (l .inv .2)
           (⊎-elim
-          (λ w. walked-met (a .tags .now) (a .spans .now) (a .heads .now) (a .spots .now) (l .f) (a .next .now) (w .1 .result) (w .1 .ensures) (w .0 .taken) (w .2 .left))
+          (λ w. walked-met (a .tags .now) (a .spans .now) (a .heads .now) (a .spots .now) (l .f) (a .next .now) (a .count) (w .1 .result) (w .1 .ensures) (w .0 .taken) (w .2 .left))
           (λ w. walked-free (a .tags .now) (a .spans .now) (a .heads .now) (a .spots .now) (l .f) (w .0 .left))
           (c .if1 .came)),
     )
 
 returns-2 : tie.Need-returns-2 Inv-loop μ-loop
 returns-2 c =
-    let a = c .before .before .args in
+    let a = c .before .before .before .before .before .before .before .before .args in
     let l = c .before .loop in
     below-done (λ g. walked? (a .tags .now) (a .spans .now) (a .heads .now) (placeAt (spotted (a .spots .now)) g)) (a .frames) (l .f) (l .inv .2) (search needs) (search needs)
 
@@ -75,7 +74,7 @@ all-windows-spec =
     μ-loop
     loop-holds
     mul-x
-    element-copy-out-x
+    shared-slice-read-x
     frame-window-requires
     returns
     add-f

@@ -25,8 +25,8 @@ mul-k c = search needs
 mul-k-2 : tie.Need-mul-k-2 Inv-loop μ-loop
 mul-k-2 c = search needs
 
-element-copy-out-k : tie.Need-element-copy-out-k Inv-loop μ-loop
-element-copy-out-k c = search needs
+shared-slice-read-k : tie.Need-shared-slice-read-k Inv-loop μ-loop
+shared-slice-read-k c = search needs
 
 cast-k : tie.Need-cast-k Inv-loop μ-loop
 cast-k c =
@@ -44,8 +44,8 @@ sub-if1 c = search needs
 mul-if1 : tie.Need-mul-if1 Inv-loop μ-loop
 mul-if1 c = search needs
 
-element-copy-out-if1 : tie.Need-element-copy-out-if1 Inv-loop μ-loop
-element-copy-out-if1 c = search needs
+shared-slice-read-if1 : tie.Need-shared-slice-read-if1 Inv-loop μ-loop
+shared-slice-read-if1 c = search needs
 
 returns : tie.Need-returns Inv-loop μ-loop
 returns c =
@@ -60,8 +60,8 @@ sub-k c = search needs
 mul-k-3 : tie.Need-mul-k-3 Inv-loop μ-loop
 mul-k-3 c = search needs
 
-element-copy-out-k-2 : tie.Need-element-copy-out-k-2 Inv-loop μ-loop
-element-copy-out-k-2 c = search needs
+shared-slice-read-k-2 : tie.Need-shared-slice-read-k-2 Inv-loop μ-loop
+shared-slice-read-k-2 c = search needs
 
 cast-k-2 : tie.Need-cast-k-2 Inv-loop μ-loop
 cast-k-2 c =
@@ -100,16 +100,16 @@ stands-spec =
     mul-x
     mul-k
     mul-k-2
-    element-copy-out-k
+    shared-slice-read-k
     cast-k
     loop-holds
     sub-if1
     mul-if1
-    element-copy-out-if1
+    shared-slice-read-if1
     returns
     sub-k
     mul-k-3
-    element-copy-out-k-2
+    shared-slice-read-k-2
     cast-k-2
     loop-less
     loop-again

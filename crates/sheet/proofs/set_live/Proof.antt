@@ -1,0 +1,16 @@
+-- `sheet::set_live` meets its contract.
+use lib.ListN.{length-set}
+use Rattle.sheet.specs.Edits.{live-set}
+use native.Mathlib.Omega.{arith}
+use borrow.Author.Needs.{needs}
+use Rattle.sheet.proofs.set_live.Statement.{statement}
+use Rattle.sheet.proofs.set_live.Tie as tie
+
+element-write-sheet : tie.Need-element-write-sheet
+element-write-sheet c = search needs
+
+returns : tie.Need-returns
+returns c = (live-set _ (search needs) _ (search needs), simp length-set (search needs))
+
+pub set-live-spec : {M : Type 1} → statement M
+set-live-spec = tie.close (tie.spec element-write-sheet returns)

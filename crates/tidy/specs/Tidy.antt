@@ -1,0 +1,87 @@
+-- Trimming and vacating on a sheet: what the columns of its ranges tell, and one turn of each loop over its frames.
+use mathlib.Core.Path.{_≡_, refl, sym, ap, ap₂, _∙_}
+use mathlib.Core.Bool.{Bool, true, false, not}
+use mathlib.Core.List.{List}
+use Prim.Native.Nat.{ℕ, _+_, _*_, _/_, _%_, _≤_, _<_}
+use native.Mathlib.Omega.{arith}
+use lib.ListN.{length, getD, set}
+use lib.Seq.{set-getD}
+use Rattle.places.specs.declared.Place.{Place}
+use Rattle.store.specs.declared.Store.{Store}
+use Rattle.lists.specs.Test.{by-test}
+use Rattle.lists.specs.Every.{allBelow}
+use Rattle.lists.specs.Mapped.{mapped, mapped-none, mapped-rest, mapped-turn}
+use Rattle.ranges.specs.Range.{Range}
+use Rattle.ranges.specs.Table.{named}
+use Rattle.table.specs.Table.{rangesOf}
+use Rattle.places.specs.Places.{nowhere, placeAt, emptiedAt, standsAt}
+use Rattle.trim.specs.Trim.{keptPlace}
+use Rattle.chains.specs.Chains.{Chained}
+use Rattle.columns.specs.Ranges.{Spans, Tags}
+use Rattle.store.specs.Abs.{used}
+use Rattle.sheet.specs.Sheet.{withPlace, withPlaces}
+use Rattle.sound_places.specs.Windows.{Met, walk-named, outside}
+
+-- the columns of a store's ranges, and their chains
+pub record Told (s : Store) (ts xs hs ns : List ℕ) : Type 0 where
+  pub few : s .count ≤ 512
+  pub tags : Tags (s .ranges) (s .count) ts
+  pub spans : Spans (s .ranges) (s .count) xs
+  pub chained : Chained ts (s .count) hs ns
+
+pub told-all : (s : Store) (n : ℕ) (ts xs hs ns : List ℕ) → n ≡ s .count → n ≤ 512 → Tags (s .ranges) n ts → Spans (s .ranges) n xs → Chained ts n hs ns → Told s ts xs hs ns
+told-all s n ts xs hs ns e h t x c = record { few = rw (← e) h; tags = rw (← e) t; spans = rw (← e) x; chained = rw (← e) c }
+
+-- ---- one turn of a loop that puts g of each place in its place: the store S, with the first f places done, is T
+module _ (g : Place → Place) (S T : Store) (f : ℕ) (h : f < length (S .places)) (e : T ≡ withPlaces (mapped g (S .places) f) S) where
+  here : placeAt (T .places) f ≡ placeAt (S .places) f
+  here = mapped-rest g (S .places) (T .places) f nowhere h (ap (λ t. t .places) e)
+
+  -- the place is set
+  pub turn-set : (U : Store) (q : Place) → q ≡ g (placeAt (T .places) f) → U ≡ withPlace f q T → U ≡ withPlaces (mapped g (S .places) (f + 1)) S
+  turn-set U q z u =
+      u ∙ ap (withPlace f q) e
+      ∙ ap (λ l. withPlaces l S) (mapped-turn g (S .places) (mapped g (S .places) f) f q nowhere h (z ∙ ap g here) refl)
+
+  -- the place stays
+  pub turn-keep : g (placeAt (T .places) f) ≡ placeAt (T .places) f → T ≡ withPlaces (mapped g (S .places) (f + 1)) S
+  turn-keep z = turn-set T (placeAt (T .places) f) (sym z) (ap (λ l. withPlaces l T) (sym (set-getD (T .places) f nowhere)))
+
+pub turns-none : (g : Place → Place) (S : Store) → S ≡ withPlaces (mapped g (S .places) 0) S
+turns-none g S = ap (λ l. withPlaces l S) (mapped-none g (S .places))
+
+-- a free frame's place stays
+pub kept-zero : (rs : List Range) (p : Place) → p .backing * 4294967296 + p .index ≡ 0 → keptPlace rs p ≡ p
+kept-zero rs p h =
+    let b : p .backing ≡ 0 = omega arith in
+    let i : p .index ≡ 0 = omega arith in
+    let z : p ≡ nowhere = λ j. record { backing = b j; index = i j } in
+    by-test (named (p .backing) (p .index) rs) (λ t. rw t) (λ t. rw t (sym z))
+
+-- ---- the place that trimming keeps, by what the walk along the chains meets
+module _ (S : Store) (full : length (S .ranges) ≡ 512) (ts xs hs ns : List ℕ) (T : Told S ts xs hs ns) (p : Place) (small : p .index < 4294967296) (r : ℕ)
+    (M : Met ts xs hs ns (p .backing * 4294967296 + p .index) r) where
+  abbrev x : ℕ
+  x = p .backing * 4294967296 + p .index
+
+  told : named (p .backing) (p .index) (rangesOf (used S)) ≡ not (allBelow (outside ts xs (x / 4294967296) (x % 4294967296)) (getD hs (x / 4294967296 % 1024) 0))
+  told =
+      let b : p .backing ≡ x / 4294967296 = omega arith in
+      let i : p .index ≡ x % 4294967296 = omega arith in
+      walk-named (S .ranges) ts xs (S .count) (omega (arith, T .few)) (T .tags) (T .spans) hs ns (T .chained) (p .backing) (p .index)
+      ∙ ap₂ (λ c j. not (allBelow (outside ts xs c j) (getD hs (c % 1024) 0))) b i
+
+  -- nothing is met: the place goes
+  pub met-none : r ≡ 0 → nowhere ≡ keptPlace (rangesOf (used S)) p
+  met-none z = rw (told, M .none z)
+
+  -- a window is met: it stays
+  pub met-some : (r ≡ 0 → ⊥) → keptPlace (rangesOf (used S)) p ≡ p
+  met-some z = rw (told, M .some (omega arith))
+
+-- ---- the place that vacating keeps
+pub stands-goes : (b i : ℕ) (p : Place) (t : Bool) → t ≡ standsAt b i p → t ≡ true → nowhere ≡ emptiedAt b i p
+stands-goes b i p t e h = rw (sym e ∙ h)
+
+pub stands-stays : (b i : ℕ) (p : Place) (t : Bool) → t ≡ standsAt b i p → t ≡ false → emptiedAt b i p ≡ p
+stands-stays b i p t e h = rw (sym e ∙ h)
