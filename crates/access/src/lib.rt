@@ -59,11 +59,24 @@ pub fn add(s: Store, pool: &mut [u8], object: u32, page: PageNumber) -> Added
 pub fn read(s: Store, pool: &[u8], object: u32, offset: usize, buf: &mut [u8]) -> u8
     ensures { λ k. ⌜ (DidWith (read object offset (length (now (buf .entry)))) s (now (pool .entry)) k (bytes (now (buf .exit))) s (now (pool .entry))) × (0 < k → now (buf .exit) ≡ now (buf .entry)) ⌝ }
 {
-    let k = refuse::read(s, pool.len(), object, offset, buf.len());
+    let mut sheet = [0u64; 2579];
+    let mut holders = [0u32; 2048];
+    let mut links = [0u32; 2048];
+    let n = buf.len();
+    let k = enter::read(
+        s,
+        &mut sheet,
+        &mut holders,
+        &mut links,
+        pool.len(),
+        object,
+        offset,
+        n,
+    );
     if 0 < k {
         return k;
     }
-    reads::read_pages(s, pool, object, offset, buf);
+    fetch::read_pages(&sheet, &links, pool, object, offset, buf);
     0
 }
 
