@@ -119,7 +119,21 @@ pub fn copy_range_to_shadow(
 ) -> Reply
     ensures { λ r. ⌜ DidWith (shadow source from object to n) s (now (pool .entry)) (r .number) done (r .store) (now (pool .entry)) ⌝ }
 {
-    let k = refuse::shadow(s, pool.len(), source, from, object, to, n);
+    let mut sheet = [0u64; 2579];
+    let mut holders = [0u32; 2048];
+    let mut links = [0u32; 2048];
+    let k = enter::shadow(
+        s,
+        &mut sheet,
+        &mut holders,
+        &mut links,
+        pool.len(),
+        source,
+        from,
+        object,
+        to,
+        n,
+    );
     if 0 < k {
         return Reply {
             number: k,
@@ -128,15 +142,9 @@ pub fn copy_range_to_shadow(
     }
     let first = PageNumber::from_offset(from);
     let place = PageNumber::from_offset(to);
-    let w = shares::copy_range_to_object_tree(
-        s,
-        source,
-        first,
-        object,
-        place,
-        n / PageNumber::PAGE_SIZE,
-    );
-    let t = access::closed(w);
+    let m = n / PageNumber::PAGE_SIZE;
+    spread::copy_range_to_object_tree(&mut sheet, source, first, object, place, m);
+    let t = closing::closed(&sheet);
     Reply {
         number: 0,
         store: t,
