@@ -49,7 +49,7 @@ fn opening(s: Store, pool: usize, object: u32) -> u8
 }
 
 // 6: "offset + length above 1,073,741,824", where the sum may be above the largest number too
-fn past_end(offset: usize, n: usize) -> bool
+pub fn past_end(offset: usize, n: usize) -> bool
     ensures { λ q. ⌜ q ≡ pastEnd offset n ⌝ }
 {
     if PageNumber::OBJECT_SIZE < offset {
@@ -225,7 +225,7 @@ pub fn wanted(s: Store, object: u32, page: PageNumber, n: usize, limit: usize) -
 }
 
 // How many pages the n bytes from `offset` on touch.
-fn touched(offset: usize, n: usize) -> usize
+pub fn touched(offset: usize, n: usize) -> usize
     requires { ⌜ offset + n ≤ 1073741824 ⌝ }
     ensures { λ r. ⌜ r ≡ touched 4096 offset n ⌝ }
 {
@@ -300,7 +300,7 @@ fn counted_parts(s: Store, object: u32, offset: usize, n: usize, absent: usize) 
 }
 
 // Whether a range has pages from a up to e of the line.
-fn meets(r: PageRange, a: usize, e: usize) -> bool
+pub fn meets(r: PageRange, a: usize, e: usize) -> bool
     requires { ⌜ Small r ⌝ }
     ensures { λ q. ⌜ q ≡ overlaps a e r ⌝ }
 {

@@ -56,6 +56,9 @@ rowsOf (Part r) = r ∷ []
 abbrev pub madeOf : List PageRange → List PageRange → List PageRange → List PageRange
 madeOf b m a = b ++ (m ++ a)
 
+abbrev pub partsMade : Piece → Piece → Piece → List PageRange
+partsMade before middle after = madeOf (rowsOf before) (rowsOf middle) (rowsOf after)
+
 -- a part begins at a page that a sheet can tell
 abbrev pub Fit : Piece → Type 0
 Fit Empty = Unit {0}
@@ -64,6 +67,13 @@ Fit (Part r) = r .start .0 < 262144
 -- a list of rows laid over the table from `at` on
 abbrev pub withRows : ℕ → List PageRange → Store → Store
 withRows at l s = withRanges (laid (s .ranges) at l) s
+
+-- n rows from `from` on written from `to` on; n rows from `at` on set to zero
+abbrev pub withMoved : ℕ → ℕ → ℕ → Store → Store
+withMoved to from n s = withRanges (paste (s .ranges) to (drop from (s .ranges)) n) s
+
+abbrev pub withZeros : ℕ → ℕ → Store → Store
+withZeros at n s = withRanges (paste (s .ranges) at (replicate n zeroRange) n) s
 
 -- ---- rows moved, one a turn
 module _ (s : Store) (full : length (s .ranges) ≡ 512) where

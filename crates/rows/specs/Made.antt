@@ -23,7 +23,7 @@ use Rattle.store.specs.Ranges.{cut-rest, put-rest}
 use Rattle.sheet.specs.Sheet.{rangeAt, storeOf, withRange, withRanges}
 use Rattle.sheet.specs.Edits.{range-read}
 use Rattle.rows.specs.Shift.{Opened, laid, laid-more, laid-none, laid-one, open-same, spliced-laid}
-use Rattle.rows.specs.Edit.{Blank, CutIs, Fit, PutIs, Shifted, madeOf, rowsOf, withRows, withTable}
+use Rattle.rows.specs.Edit.{Blank, CutIs, Fit, PutIs, Shifted, madeOf, partsMade, rowsOf, withRows, withTable}
 
 -- ---- a part as a row
 
@@ -94,14 +94,14 @@ unspliced s p full few inside blank =
     ∙ spliced-laid (s .ranges) (s .ranges) [] (s .count) p p full few (omega arith) inside (omega arith) (open-same (s .ranges) (s .count) p (p + 0) full few inside blank y)
     ∙ ap (λ k. spliced (s .ranges) (s .count) p k []) z
 
-made-ranged : (before : Piece) (n : PageRange) (after : Piece) → rangedOf (madeOf (rowsOf before) (rowsOf (Part n)) (rowsOf after)) ≡ partsOf before ++ (ranged n ∷ partsOf after)
+made-ranged : (before : Piece) (n : PageRange) (after : Piece) → rangedOf (partsMade before (Part n) after) ≡ partsOf before ++ (ranged n ∷ partsOf after)
 unfolding rangedOf
 made-ranged Empty n Empty = refl
 made-ranged Empty n (Part y) = refl
 made-ranged (Part x) n Empty = refl
 made-ranged (Part x) n (Part y) = refl
 
-both-ranged : (before after : Piece) → rangedOf (madeOf (rowsOf before) (rowsOf Empty) (rowsOf after)) ≡ partsOf before ++ partsOf after
+both-ranged : (before after : Piece) → rangedOf (partsMade before Empty after) ≡ partsOf before ++ partsOf after
 unfolding rangedOf
 both-ranged Empty Empty = refl
 both-ranged Empty (Part y) = refl
@@ -152,13 +152,13 @@ module _ (s : Store) (T : Table (s .ranges) (s .count)) where
     last-met = eq ∙ ap (λ k. startsBefore k (rangedOf (used s))) ee
 
     pub put-over : (f l : PageRange) (before after : Piece) (t : Store) → p < q → f ≡ rangeAt s p → l ≡ rangeAt s (q - 1) → partsOf before ≡ front a (ranged f)
-        → partsOf after ≡ back e (ranged l) → t ≡ splicedIn s p (q - p) (madeOf (rowsOf before) (rowsOf (Part n)) (rowsOf after)) → PutIs n s t
+        → partsOf after ≡ back e (ranged l) → t ≡ splicedIn s p (q - p) (partsMade before (Part n) after) → PutIs n s t
     put-over f l before after t k ef el ex ey y =
         put-made t (y ∙ ap (λ (r : RangeTable). withTable r s)
-        (put-met (s .ranges) (s .count) T n p q h first-met last-met (madeOf (rowsOf before) (rowsOf (Part n)) (rowsOf after)) _ _ _ (partsOf before) (partsOf after) k refl
+        (put-met (s .ranges) (s .count) T n p q h first-met last-met (partsMade before (Part n) after) _ _ _ (partsOf before) (partsOf after) k refl
         (made-ranged before n after) (ex ∙ ap₂ (λ i r. front i (ranged r)) ea ef) (ey ∙ ap₂ (λ i r. back i (ranged r)) ee el) refl refl))
 
-    pub put-between : (t : Store) → q ≤ p → t ≡ splicedIn s p (p - p) (madeOf (rowsOf Empty) (rowsOf (Part n)) (rowsOf Empty)) → PutIs n s t
+    pub put-between : (t : Store) → q ≤ p → t ≡ splicedIn s p (p - p) (partsMade Empty (Part n) Empty) → PutIs n s t
     put-between t k y =
         let z : p - p ≡ 0 = omega arith in
         let x : t ≡ splicedIn s p 0 (n ∷ []) = rw z at y in
@@ -181,14 +181,14 @@ module _ (s : Store) (T : Table (s .ranges) (s .count)) where
       ey : partsOf after ≡ back e (ranged (rangeAt s (q - 1)))
       ey = er ∙ ap (λ r. back e (ranged r)) el
 
-      pub cut-fits : s .count + length (madeOf (rowsOf before) (rowsOf Empty) (rowsOf after)) ≤ 512 + (q - p)
+      pub cut-fits : s .count + length (partsMade before Empty after) ≤ 512 + (q - p)
       cut-fits =
-          cut-room (s .ranges) (s .count) T a e p q h ep eq (madeOf (rowsOf before) (rowsOf Empty) (rowsOf after)) _ (partsOf before) (partsOf after) k refl (both-ranged before after) ex ey room
+          cut-room (s .ranges) (s .count) T a e p q h ep eq (partsMade before Empty after) _ (partsOf before) (partsOf after) k refl (both-ranged before after) ex ey room
 
-      pub cut-over : (t : Store) → t ≡ splicedIn s p (q - p) (madeOf (rowsOf before) (rowsOf Empty) (rowsOf after)) → CutIs a e s t
+      pub cut-over : (t : Store) → t ≡ splicedIn s p (q - p) (partsMade before Empty after) → CutIs a e s t
       cut-over t y =
           cut-made t (y ∙ ap (λ (r : RangeTable). withTable r s)
-          (cut-met (s .ranges) (s .count) T a e p q h ep eq (madeOf (rowsOf before) (rowsOf Empty) (rowsOf after)) _ _ _ (partsOf before) (partsOf after) k refl (both-ranged before after) ex ey refl refl))
+          (cut-met (s .ranges) (s .count) T a e p q h ep eq (partsMade before Empty after) _ _ _ (partsOf before) (partsOf after) k refl (both-ranged before after) ex ey refl refl))
 
     pub cut-nothing : Blank s → q ≤ p → CutIs a e s s
     cut-nothing blank k =

@@ -14,17 +14,16 @@ use table::zero_range;
 ghost use mathlib.Core.Path.{_≡_};
 ghost use mathlib.Core.List.{[]};
 ghost use Prim.Native.Nat.{_+_, _-_, _≤_, _<_};
-ghost use lib.ListN.{length, drop, replicate};
-ghost use lib.Seq.{paste};
+ghost use lib.ListN.{length};
 ghost use Rattle.ranges.specs.Range.{carve};
 ghost use Rattle.ranges.specs.Search.{startsBefore, endsBy};
 ghost use Rattle.ranges.specs.Table.{holders, fresh, named};
-ghost use Rattle.table.specs.Table.{rangedOf, rangesOf, zeroRange, Small, Table};
+ghost use Rattle.table.specs.Table.{rangedOf, rangesOf, Small, Table};
 ghost use Rattle.table.specs.Searching.{BegunIs};
 ghost use Rattle.store.specs.Abs.{used};
-ghost use Rattle.sheet.specs.Sheet.{rangeAt, storeOf, withRange, withRanges};
+ghost use Rattle.sheet.specs.Sheet.{rangeAt, storeOf, withRange};
 ghost use Rattle.rows.specs.Rows.{Held};
-ghost use Rattle.rows.specs.Edit.{Blank, CutIs, Fit, PutIs, Shifted, madeOf, rowsOf, withRows};
+ghost use Rattle.rows.specs.Edit.{Blank, CutIs, Fit, PutIs, Shifted, partsMade, rowsOf, withMoved, withRows, withZeros};
 ghost use Rattle.rows.specs.Made.{splicedIn};
 
 // The ranges that begin before page g of the line, by halving.
@@ -172,7 +171,7 @@ fn copy_row(sheet: &mut [u64; 2579], to: usize, from: usize)
 // The n rows from `from` on moved up to `to`, from the last.
 fn shift_up(sheet: &mut [u64; 2579], to: usize, from: usize, n: usize)
     requires { ⌜ (length (now sheet) ≡ 2579) × (from ≤ to) × (to + n ≤ 512) ⌝ }
-    ensures { λ _. ⌜ (storeOf (now (sheet .exit)) ≡ withRanges (paste (storeOf (now (sheet .entry)) .ranges) to (drop from (storeOf (now (sheet .entry)) .ranges)) n) (storeOf (now (sheet .entry)))) × (length (now (sheet .exit)) ≡ 2579) ⌝ }
+    ensures { λ _. ⌜ (storeOf (now (sheet .exit)) ≡ withMoved to from n (storeOf (now (sheet .entry)))) × (length (now (sheet .exit)) ≡ 2579) ⌝ }
 {
     let mut i: usize = n;
     while 0 < i {
@@ -184,7 +183,7 @@ fn shift_up(sheet: &mut [u64; 2579], to: usize, from: usize, n: usize)
 // The n rows from `from` on moved down to `to`, from the first.
 fn shift_down(sheet: &mut [u64; 2579], to: usize, from: usize, n: usize)
     requires { ⌜ (length (now sheet) ≡ 2579) × (to ≤ from) × (from + n ≤ 512) ⌝ }
-    ensures { λ _. ⌜ (storeOf (now (sheet .exit)) ≡ withRanges (paste (storeOf (now (sheet .entry)) .ranges) to (drop from (storeOf (now (sheet .entry)) .ranges)) n) (storeOf (now (sheet .entry)))) × (length (now (sheet .exit)) ≡ 2579) ⌝ }
+    ensures { λ _. ⌜ (storeOf (now (sheet .exit)) ≡ withMoved to from n (storeOf (now (sheet .entry)))) × (length (now (sheet .exit)) ≡ 2579) ⌝ }
 {
     let mut i: usize = 0;
     while i < n {
@@ -196,7 +195,7 @@ fn shift_down(sheet: &mut [u64; 2579], to: usize, from: usize, n: usize)
 // The n rows from `at` on set to zero.
 fn clear(sheet: &mut [u64; 2579], at: usize, n: usize)
     requires { ⌜ (length (now sheet) ≡ 2579) × (at + n ≤ 512) ⌝ }
-    ensures { λ _. ⌜ (storeOf (now (sheet .exit)) ≡ withRanges (paste (storeOf (now (sheet .entry)) .ranges) at (replicate n zeroRange) n) (storeOf (now (sheet .entry)))) × (length (now (sheet .exit)) ≡ 2579) ⌝ }
+    ensures { λ _. ⌜ (storeOf (now (sheet .exit)) ≡ withZeros at n (storeOf (now (sheet .entry)))) × (length (now (sheet .exit)) ≡ 2579) ⌝ }
 {
     let z = zero_range();
     let mut i: usize = 0;
@@ -248,9 +247,9 @@ fn lay(sheet: &mut [u64; 2579], at: usize, q: Piece)
 
 // The rows from p up to q replaced by three parts, each of them a row or none.
 fn replace(sheet: &mut [u64; 2579], p: usize, q: usize, before: Piece, middle: Piece, after: Piece)
-    requires { ⌜ (length (now sheet) ≡ 2579) × (storeOf (now sheet) .count ≤ 512) × (p ≤ q) × (q ≤ storeOf (now sheet) .count) × (storeOf (now sheet) .count + length (madeOf (rowsOf before) (rowsOf middle) (rowsOf after)) ≤ 512 + (q - p)) ⌝ }
+    requires { ⌜ (length (now sheet) ≡ 2579) × (storeOf (now sheet) .count ≤ 512) × (p ≤ q) × (q ≤ storeOf (now sheet) .count) × (storeOf (now sheet) .count + length (partsMade before middle after) ≤ 512 + (q - p)) ⌝ }
     requires { ⌜ (Blank (storeOf (now sheet))) × (Fit before) × (Fit middle) × (Fit after) ⌝ }
-    ensures { λ _. ⌜ (storeOf (now (sheet .exit)) ≡ splicedIn (storeOf (now (sheet .entry))) p (q - p) (madeOf (rowsOf before) (rowsOf middle) (rowsOf after))) × (length (now (sheet .exit)) ≡ 2579) ⌝ }
+    ensures { λ _. ⌜ (storeOf (now (sheet .exit)) ≡ splicedIn (storeOf (now (sheet .entry))) p (q - p) (partsMade before middle after)) × (length (now (sheet .exit)) ≡ 2579) ⌝ }
 {
     let x = width(before);
     let y = width(middle);

@@ -1,0 +1,1 @@
+-- What is read and written is said by the crates `reads`, `pages` and `writes`.

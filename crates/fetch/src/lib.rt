@@ -1,0 +1,119 @@
+// Bytes of an object read, and written over where they are, page by page, with the store on a sheet.
+use frames::Frame;
+use look::PageAt;
+use page::PageNumber;
+ghost use mathlib.Core.Path.{_≡_};
+ghost use mathlib.Core.Bool.{true, false};
+ghost use Prim.Native.Nat.{_+_, _*_, _/_, _%_, _≤_, _<_};
+ghost use lib.ListN.{length, drop, take};
+ghost use lib.Seq.{paste};
+ghost use Rattle.book.specs.Page.{over};
+ghost use Rattle.book.specs.Bytes.{reading};
+ghost use Rattle.book.specs.Book.{entry};
+ghost use Rattle.store.specs.Abs.{bookOf};
+ghost use Rattle.reads.specs.Reading.{pageBytes};
+ghost use Rattle.pages.specs.Inside.{Inside, Wrote};
+ghost use Rattle.writes.specs.Written.{Room};
+ghost use Rattle.writes.specs.Going.{Going};
+ghost use Rattle.sheet.specs.Sheet.{storeOf};
+ghost use Rattle.seek.specs.Framed.{Charted};
+
+// n bytes from place k of page g of the line, stored in buf from index at. "Absent bytes read as zero."
+pub fn read_page(
+    sheet: &[u64; 2579],
+    links: &[u32; 2048],
+    pool: &[u8],
+    g: usize,
+    k: usize,
+    buf: &mut [u8],
+    at: usize,
+    n: usize,
+)
+    requires { ⌜ (Charted (now sheet) (now links)) × (length (now pool) ≡ storeOf (now sheet) .frames * 4096) ⌝ }
+    requires { ⌜ (g < 1000000000000000000) × (k + n ≤ 4096) × (at + n ≤ length (now buf)) ⌝ }
+    ensures { λ r. ⌜ now (buf .exit) ≡ paste (now (buf .entry)) at (drop k (pageBytes (storeOf (now (sheet .entry))) (now (pool .entry)) g)) n ⌝ }
+{
+    match seek::locate(sheet, links, g) {
+        PageAt::Absent => pool::fill(buf, at, n, 0),
+        PageAt::Present(l) => pool::copy_out(buf, at, pool, l.frame * PageNumber::PAGE_SIZE + k, n),
+    }
+}
+
+// The bytes of an object from offset on, as many as fill buf.
+pub fn read_pages(
+    sheet: &[u64; 2579],
+    links: &[u32; 2048],
+    pool: &[u8],
+    object: u32,
+    offset: usize,
+    buf: &mut [u8],
+)
+    requires { ⌜ (Charted (now sheet) (now links)) × (length (now pool) ≡ storeOf (now sheet) .frames * 4096) ⌝ }
+    requires { ⌜ offset + length (now buf) ≤ 1073741824 ⌝ }
+    ensures { λ r. ⌜ now (buf .exit) ≡ reading object offset (length (now (buf .entry))) (entry (bookOf (storeOf (now (sheet .entry))) (now (pool .entry)))) ⌝ }
+{
+    let n = buf.len();
+    let mut done: usize = 0;
+    while done < n {
+        let x = offset + done;
+        let part = PageNumber::in_page(x, n - done);
+        let p = PageNumber::from_offset(x);
+        let k = PageNumber::place(x);
+        let g = table::line_of(object, p);
+        read_page(sheet, links, pool, g, k, buf, done, part);
+        done += part;
+    }
+}
+
+// m bytes of src, from index `from`, written to the page that offset lies in, where that is present and private: the store stays. Else nothing is
+// written, and the answer is no.
+pub fn overwrite_page(
+    sheet: &[u64; 2579],
+    links: &[u32; 2048],
+    pool: &mut [u8],
+    object: u32,
+    offset: usize,
+    src: &[u8],
+    from: usize,
+    m: usize,
+) -> bool
+    requires { ⌜ (Charted (now sheet) (now links)) × (Inside (storeOf (now sheet)) (now pool)) × (offset < 1073741824) × (offset % 4096 + m ≤ 4096) × (from + m ≤ length (now src)) ⌝ }
+    ensures { λ q. ⌜ (q ≡ true → Wrote (storeOf (now (sheet .entry))) (now (pool .entry)) object (offset / 4096) (over (offset % 4096) (take m (drop from (now (src .entry))))) (storeOf (now (sheet .entry))) (now (pool .exit))) × (q ≡ false → now (pool .exit) ≡ now (pool .entry)) ⌝ }
+{
+    let page = PageNumber::from_offset(offset);
+    let g = table::line_of(object, page);
+    match seek::private_frame(sheet, links, g) {
+        Frame::At(f) => {
+            let at = f * PageNumber::PAGE_SIZE + PageNumber::place(offset);
+            pool::copy_in(pool, at, src, from, m);
+            true
+        }
+        Frame::Nothing => false,
+    }
+}
+
+// The bytes of src written from `offset` on as far as the pages are present and private, so that the store stays: how many bytes are written.
+pub fn overwrite_pages(
+    sheet: &[u64; 2579],
+    links: &[u32; 2048],
+    pool: &mut [u8],
+    object: u32,
+    offset: usize,
+    src: &[u8],
+) -> usize
+    requires { ⌜ (Charted (now sheet) (now links)) × (Room (storeOf (now sheet)) (now pool) object offset (length (now src))) ⌝ }
+    ensures { λ r. ⌜ Going (storeOf (now (sheet .entry))) (now (pool .entry)) object offset (now (src .entry)) r (storeOf (now (sheet .entry))) (now (pool .exit)) ⌝ }
+{
+    let n = src.len();
+    let mut done: usize = 0;
+    while done < n {
+        let at = offset + done;
+        let m = PageNumber::in_page(at, n - done);
+        if overwrite_page(sheet, links, pool, object, at, src, done, m) {
+            done += m;
+        } else {
+            return done;
+        }
+    }
+    done
+}

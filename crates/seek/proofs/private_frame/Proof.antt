@@ -1,0 +1,74 @@
+-- `seek::private_frame` meets its contract: in each arm the answer is that of the page's place and of its sharing.
+use mathlib.Core.Path.{_≡_, ap, sym, _∙_}
+use Rattle.look.specs.declared.State.{State}
+use Rattle.look.specs.declared.Located.{Located}
+use Rattle.look.specs.declared.PageAt.the-variants.{Absent, Present}
+use Rattle.look.specs.Look.{located, framed, private-told}
+use borrow.Author.Needs.{needs}
+use Rattle.sheet.specs.Sheet.{storeOf}
+use Rattle.seek.proofs.private_frame.Statement.{statement}
+use Rattle.seek.proofs.private_frame.Tie as tie
+
+locate-requires : tie.Need-locate-requires
+locate-requires c κs = search needs
+
+enum-told : tie.Need-enum-told
+enum-told c = search needs
+
+enum-known-l : tie.Need-enum-known-l
+enum-known-l c = search needs
+
+sharing-requires : tie.Need-sharing-requires
+sharing-requires c κs = search needs
+
+enum-told-2 : tie.Need-enum-told-2
+enum-told-2 c = search needs
+
+enum-told-3 : tie.Need-enum-told-3
+enum-told-3 c = search needs
+
+enum-told-4 : tie.Need-enum-told-4
+enum-told-4 c = search needs
+
+returns : tie.Need-returns
+returns c =
+    let a = c .before .before .before .args in
+    let e : located (storeOf (a .sheet .now)) (a .g) ≡ Absent = sym (c .before .before .locate .ensures) ∙ c .enum-told .given .1 in
+    rw e
+
+returns-2 : tie.Need-returns-2
+returns-2 c =
+    let a = c .before .before .before .before .before .before .before .args in
+    let l : Located = c .before .before .before .before .l .given .0 .0 in
+    let e : located (storeOf (a .sheet .now)) (a .g) ≡ Present l = sym (c .before .before .before .before .before .before .locate .ensures) ∙ c .before .before .before .before .l .given .1 in
+    rw e (ap (λ (z : State). framed z (l .frame)) (sym (c .enum-told2 .given .1)) ∙ private-told (storeOf (a .sheet .now)) l _ (c .before .before .sharing .ensures))
+
+returns-3 : tie.Need-returns-3
+returns-3 c =
+    let a = c .before .before .before .before .before .before .before .args in
+    let l : Located = c .before .before .before .before .l .given .0 .0 in
+    let e : located (storeOf (a .sheet .now)) (a .g) ≡ Present l = sym (c .before .before .before .before .before .before .locate .ensures) ∙ c .before .before .before .before .l .given .1 in
+    rw e (ap (λ (z : State). framed z (l .frame)) (sym (c .enum-told3 .given .1)) ∙ private-told (storeOf (a .sheet .now)) l _ (c .before .before .sharing .ensures))
+
+returns-4 : tie.Need-returns-4
+returns-4 c =
+    let a = c .before .before .before .before .before .before .before .args in
+    let l : Located = c .before .before .before .before .l .given .0 .0 in
+    let e : located (storeOf (a .sheet .now)) (a .g) ≡ Present l = sym (c .before .before .before .before .before .before .locate .ensures) ∙ c .before .before .before .before .l .given .1 in
+    rw e (ap (λ (z : State). framed z (l .frame)) (sym (c .enum-told4 .given .1)) ∙ private-told (storeOf (a .sheet .now)) l _ (c .before .before .sharing .ensures))
+
+pub private-frame-spec : {M : Type 1} → statement M
+private-frame-spec =
+    tie.close
+    (tie.spec
+    locate-requires
+    enum-told
+    enum-known-l
+    sharing-requires
+    enum-told-2
+    enum-told-3
+    enum-told-4
+    returns
+    returns-2
+    returns-3
+    returns-4)
