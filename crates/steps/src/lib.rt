@@ -8,17 +8,23 @@ use table::BackingPages;
 use table::Found;
 use table::PageRange;
 ghost use mathlib.Core.Path.{_≡_};
-ghost use Prim.Native.Nat.{_+_, _-_, _≤_, _<_, suc};
-ghost use lib.ListN.{length, take};
+ghost use mathlib.Core.Bool.{true};
+ghost use Prim.Native.Nat.{_+_, _-_, _/_, _%_, _≤_, _<_, suc};
+ghost use lib.ListN.{length, drop, replicate, take};
 ghost use Rattle.ranges.specs.Range.{line, from, upto};
-ghost use Rattle.book.specs.Work.{isShared, joins};
+ghost use Rattle.book.specs.Page.{over};
+ghost use Rattle.book.specs.Work.{addPage, isShared, joins, next, writable};
 ghost use Rattle.frames.specs.Free.{highestBelow, spareOf};
 ghost use Rattle.frames.specs.declared.Frame.the-variants.{At};
 ghost use Rattle.table.specs.Table.{ranged, rangeOf, rangesOf, Small, Table};
-ghost use Rattle.places.specs.Places.{frameAt};
+ghost use Rattle.places.specs.Places.{placeAt};
 ghost use Rattle.store.specs.Abs.{used};
+ghost use Rattle.store.specs.Spare.{workOf};
 ghost use Rattle.look.specs.Look.{inRange, located};
 ghost use Rattle.sheet.specs.Sheet.{storeOf};
+ghost use Rattle.pages.specs.Clear.{Spared, Cleared};
+ghost use Rattle.pages.specs.Inside.{Inside, Stepped, Wrote};
+ghost use Rattle.pages.specs.Present.{Present, Room};
 ghost use Rattle.pages.specs.Spot.{ownSpot, longerSpot, spotIn, spotOf};
 
 // A range of its own, with a new backing.
@@ -144,23 +150,6 @@ fn next_frame(sheet: &[u64; 2579]) -> usize
     0
 }
 
-// The first frame that stands at this backing and index.
-fn frame_at(sheet: &[u64; 2579], backing: u32, index: u32) -> Frame
-    requires { ⌜ storeOf (now sheet) .frames ≤ 1024 ⌝ }
-    ensures { λ r. ⌜ r ≡ frameAt backing index 0 (take (storeOf (now (sheet .entry)) .frames) (storeOf (now (sheet .entry)) .places)) ⌝ }
-{
-    let frames = sheet::frames(sheet);
-    let mut f: usize = 0;
-    while f < frames {
-        let p = sheet::place(sheet, f);
-        if places::stands_at(p, backing, index) {
-            return Frame::At(f);
-        }
-        f += 1;
-    }
-    Frame::Nothing
-}
-
 // Page g of the line, which range r covers.
 fn in_range(sheet: &[u64; 2579], r: PageRange, g: usize) -> PageAt
     requires { ⌜ (Small r) × (from (ranged r) ≤ g) × (g < upto (ranged r)) × (storeOf (now sheet) .frames ≤ 1024) ⌝ }
@@ -169,7 +158,7 @@ fn in_range(sheet: &[u64; 2579], r: PageRange, g: usize) -> PageAt
     let i = look::index_in(r, g);
     let b = r.backing;
     let backing = table::number(b);
-    match frame_at(sheet, backing, i) {
+    match settle::frame_at(sheet, backing, i) {
         Frame::Nothing => PageAt::Absent,
         Frame::At(frame) => PageAt::Present(Located { backing, frame }),
     }
@@ -185,5 +174,119 @@ pub fn locate(sheet: &[u64; 2579], g: usize) -> PageAt
     match table::reaching(b, g) {
         Found::Missing => PageAt::Absent,
         Found::At(_) => in_range(sheet, r, g),
+    }
+}
+
+// "Adding to a present page replaces it by a zeroed frame"; a page of a shared range is cut out; an uncovered one joins a range or starts one. The answer is the frame.
+pub fn add_page(sheet: &mut [u64; 2579], pool: &mut [u8], object: u32, page: PageNumber) -> usize
+    requires { ⌜ (length (now sheet) ≡ 2579) × (Inside (storeOf (now sheet)) (now pool)) × (page .0 < 262144) × (0 < length (spareOf (storeOf (now sheet) .free) 1024)) × (storeOf (now sheet) .count + 2 ≤ 512) ⌝ }
+    ensures { λ f. ⌜ (Stepped (storeOf (now (sheet .entry))) (now (pool .entry)) object (page .0) (addPage object (page .0) (workOf (storeOf (now (sheet .entry))) (now (pool .entry)))) (storeOf (now (sheet .exit))) (now (pool .exit)) f) × (f ≡ next (workOf (storeOf (now (sheet .entry))) (now (pool .entry)))) × (length (now (sheet .exit)) ≡ 2579) ⌝ }
+{
+    let q = spot_of(sheet, object, page);
+    let f = next_frame(sheet);
+    settle::settle(sheet, object, page, q, f);
+    pool::zero_frame(pool, f);
+    f
+}
+
+// "it starts with a copy of its bytes": a page of a shared range, which has the frame `from`.
+fn copy_page(
+    sheet: &mut [u64; 2579],
+    pool: &mut [u8],
+    object: u32,
+    page: PageNumber,
+    from: usize,
+) -> usize
+    requires { ⌜ (length (now sheet) ≡ 2579) × (Inside (storeOf (now sheet)) (now pool)) × (page .0 < 262144) × (0 < length (spareOf (storeOf (now sheet) .free) 1024)) × (storeOf (now sheet) .count + 2 ≤ 512) ⌝ }
+    requires { ⌜ (Present (storeOf (now sheet)) (now pool) object (page .0) from) × (isShared (placeAt (storeOf (now sheet) .places) from .backing) (rangesOf (used (storeOf (now sheet)))) ≡ true) ⌝ }
+    ensures { λ f. ⌜ (Stepped (storeOf (now (sheet .entry))) (now (pool .entry)) object (page .0) (writable object (page .0) (workOf (storeOf (now (sheet .entry))) (now (pool .entry)))) (storeOf (now (sheet .exit))) (now (pool .exit)) f) × (length (now (sheet .exit)) ≡ 2579) ⌝ }
+{
+    let q = own_spot(sheet, object, page);
+    let f = next_frame(sheet);
+    settle::settle(sheet, object, page, q, f);
+    pool::copy_frame(pool, f, from);
+    f
+}
+
+// A page that is present, in this backing and frame, made private.
+fn private_page(
+    sheet: &mut [u64; 2579],
+    pool: &mut [u8],
+    object: u32,
+    page: PageNumber,
+    backing: u32,
+    frame: usize,
+) -> usize
+    requires { ⌜ (length (now sheet) ≡ 2579) × (Inside (storeOf (now sheet)) (now pool)) × (page .0 < 262144) × (Room (storeOf (now sheet)) (now pool) object (page .0)) ⌝ }
+    requires { ⌜ (Present (storeOf (now sheet)) (now pool) object (page .0) frame) × (placeAt (storeOf (now sheet) .places) frame .backing ≡ backing) ⌝ }
+    ensures { λ f. ⌜ (Stepped (storeOf (now (sheet .entry))) (now (pool .entry)) object (page .0) (writable object (page .0) (workOf (storeOf (now (sheet .entry))) (now (pool .entry)))) (storeOf (now (sheet .exit))) (now (pool .exit)) f) × (length (now (sheet .exit)) ≡ 2579) ⌝ }
+{
+    if is_shared(sheet, backing) {
+        return copy_page(sheet, pool, object, page, frame);
+    }
+    frame
+}
+
+// A page made present and private: "An absent page written is first added." The answer is its frame.
+pub fn make_writable(
+    sheet: &mut [u64; 2579],
+    pool: &mut [u8],
+    object: u32,
+    page: PageNumber,
+) -> usize
+    requires { ⌜ (length (now sheet) ≡ 2579) × (Inside (storeOf (now sheet)) (now pool)) × (page .0 < 262144) × (Room (storeOf (now sheet)) (now pool) object (page .0)) ⌝ }
+    ensures { λ f. ⌜ (Stepped (storeOf (now (sheet .entry))) (now (pool .entry)) object (page .0) (writable object (page .0) (workOf (storeOf (now (sheet .entry))) (now (pool .entry)))) (storeOf (now (sheet .exit))) (now (pool .exit)) f) × (length (now (sheet .exit)) ≡ 2579) ⌝ }
+{
+    let g = table::line_of(object, page);
+    match locate(sheet, g) {
+        PageAt::Absent => add_page(sheet, pool, object, page),
+        PageAt::Present(l) => private_page(sheet, pool, object, page, l.backing, l.frame),
+    }
+}
+
+// m bytes of src, from index `from`, written to the page that offset lies in.
+pub fn write_page(
+    sheet: &mut [u64; 2579],
+    pool: &mut [u8],
+    object: u32,
+    offset: usize,
+    src: &[u8],
+    from: usize,
+    m: usize,
+)
+    requires { ⌜ (length (now sheet) ≡ 2579) × (Inside (storeOf (now sheet)) (now pool)) × (offset < 1073741824) × (Room (storeOf (now sheet)) (now pool) object (offset / 4096)) ⌝ }
+    requires { ⌜ (offset % 4096 + m ≤ 4096) × (from + m ≤ length (now src)) ⌝ }
+    ensures { λ _. ⌜ (Wrote (storeOf (now (sheet .entry))) (now (pool .entry)) object (offset / 4096) (over (offset % 4096) (take m (drop from (now (src .entry))))) (storeOf (now (sheet .exit))) (now (pool .exit))) × (length (now (sheet .exit)) ≡ 2579) ⌝ }
+{
+    let page = PageNumber::from_offset(offset);
+    let f = make_writable(sheet, pool, object, page);
+    let at = f * PageNumber::PAGE_SIZE + PageNumber::place(offset);
+    pool::copy_in(pool, at, src, from, m);
+}
+
+// n bytes from offset on, all in one page that is present, cleared.
+fn clear_present(sheet: &mut [u64; 2579], pool: &mut [u8], object: u32, offset: usize, n: usize)
+    requires { ⌜ (length (now sheet) ≡ 2579) × (Inside (storeOf (now sheet)) (now pool)) × (offset < 1073741824) × (Room (storeOf (now sheet)) (now pool) object (offset / 4096)) × (offset % 4096 + n ≤ 4096) ⌝ }
+    ensures { λ _. ⌜ (Wrote (storeOf (now (sheet .entry))) (now (pool .entry)) object (offset / 4096) (over (offset % 4096) (replicate n 0)) (storeOf (now (sheet .exit))) (now (pool .exit))) × (length (now (sheet .exit)) ≡ 2579) ⌝ }
+{
+    let page = PageNumber::from_offset(offset);
+    let f = make_writable(sheet, pool, object, page);
+    let at = f * PageNumber::PAGE_SIZE + PageNumber::place(offset);
+    pool::fill(pool, at, n, 0);
+}
+
+// "clears bytes in present partial pages": n bytes from offset on, all in one page. A shared page gets a private copy; an absent one stays.
+pub fn clear_page(sheet: &mut [u64; 2579], pool: &mut [u8], object: u32, offset: usize, n: usize)
+    requires { ⌜ (length (now sheet) ≡ 2579) × (Inside (storeOf (now sheet)) (now pool)) × (offset + n ≤ 1073741824) × (offset % 4096 + n ≤ 4096) × (0 < n → Spared (storeOf (now sheet)) (now pool) object (offset / 4096)) ⌝ }
+    ensures { λ _. ⌜ (Cleared (storeOf (now (sheet .entry))) (now (pool .entry)) object offset n (storeOf (now (sheet .exit))) (now (pool .exit))) × (length (now (sheet .exit)) ≡ 2579) ⌝ }
+{
+    if n == 0 {
+        return;
+    }
+    let page = PageNumber::from_offset(offset);
+    let g = table::line_of(object, page);
+    match locate(sheet, g) {
+        PageAt::Absent => {}
+        PageAt::Present(_) => clear_present(sheet, pool, object, offset, n),
     }
 }
