@@ -38,7 +38,18 @@ pub struct Added {
 pub fn add(s: Store, pool: &mut [u8], object: u32, page: PageNumber) -> Added
     ensures { λ r. ⌜ (DidWith (add object (page .0)) s (now (pool .entry)) (r .number) (added (r .frame)) (r .store) (now (pool .exit))) × (0 < r .number → r .frame ≡ 0) ⌝ }
 {
-    let k = refuse::add(s, pool.len(), object, page);
+    let mut sheet = [0u64; 2579];
+    let mut holders = [0u32; 2048];
+    let mut links = [0u32; 2048];
+    let k = enter::add(
+        s,
+        &mut sheet,
+        &mut holders,
+        &mut links,
+        pool.len(),
+        object,
+        page,
+    );
     if 0 < k {
         return Added {
             number: k,
@@ -46,11 +57,11 @@ pub fn add(s: Store, pool: &mut [u8], object: u32, page: PageNumber) -> Added
             store: s,
         };
     }
-    let r = pages::add_page(s, pool, object, page);
-    let t = closed(r.store);
+    let f = steps::add_page(&mut sheet, pool, object, page);
+    let t = closing::closed(&sheet);
     Added {
         number: 0,
-        frame: r.frame,
+        frame: f,
         store: t,
     }
 }
