@@ -1,10 +1,10 @@
 -- Parts of a source's ranges put into the table of a sheet, and pages cut out of it: the store's steps, trimmed once.
-use mathlib.Core.Path.{_≡_, refl, ap, sym, subst, _∙_}
+use mathlib.Core.Path.{_≡_, ap}
 use mathlib.Core.List.{List}
 use Prim.Native.Nat.{ℕ, zero, suc, _+_, _-_, _*_, _≤_, _<_}
 use native.Mathlib.Nat.{le-refl}
 use native.Mathlib.Omega.{arith}
-use lib.ListN.{length, getD}
+use lib.ListN.{getD}
 use Rattle.table.specs.declared.PageRange.{PageRange}
 use Rattle.store.specs.declared.Store.{Store}
 use Rattle.edit.specs.Edit.{putTable, cutTable}
@@ -13,11 +13,10 @@ use Rattle.ranges.specs.Search.{startsBefore, endsBy, ends-in, starts-out, ends
 use Rattle.table.specs.declared.BackingPages.{BackingPages}
 use Rattle.table.specs.Table.{Table, ranged, rangedOf, rangesOf, zeroRange}
 use Rattle.table.specs.Searching.{starts-count, used-at, used-length}
-use Rattle.book.specs.Pages.{met, sharing, uncover}
+use Rattle.book.specs.Pages.{met, sharing}
 use Rattle.store.specs.Abs.{used, tableOf}
 use Rattle.store.specs.Edits.{trimmed}
 use Rattle.store.specs.Spare.{workOf}
-use Rattle.sheet.specs.Sheet.{withPlaces}
 use Rattle.rows.specs.Edit.{CutIs, PutIs}
 use Rattle.pages.specs.Inside.{Inside, inside-table}
 use Rattle.pages.specs.Any.{zeros}
@@ -68,7 +67,7 @@ module _ (s : Store) (a e o q : ℕ) (I : Inside s (zeros s)) where
   T = inside-table s (zeros s) I
 
   -- the first slots, whose ranges end by a
-  pub skipped-first : (p : ℕ) (t : Store) → p ≡ endsBy a (rangedOf (used s)) → Sharing s a e o q 0 t → Sharing s a e o q p t
+  skipped-first : (p : ℕ) (t : Store) → p ≡ endsBy a (rangedOf (used s)) → Sharing s a e o q 0 t → Sharing s a e o q p t
   skipped-first p t h S =
       let z : 0 + p ≡ p = omega arith in
       let m : p ≤ s .count = omega (arith, ends-few (ranged zeroRange) a (rangedOf (used s)), used-length (s .ranges) (s .count) T) in
@@ -78,7 +77,7 @@ module _ (s : Store) (a e o q : ℕ) (I : Inside s (zeros s)) where
       omega arith))
 
   -- the last slots, whose ranges begin at e or later
-  pub skipped-last : (i p : ℕ) (t : Store) → p ≡ startsBefore e (rangedOf (used s)) → p ≤ i → i ≤ s .count → Sharing s a e o q i t → Sharing s a e o q (s .count) t
+  skipped-last : (i p : ℕ) (t : Store) → p ≡ startsBefore e (rangedOf (used s)) → p ≤ i → i ≤ s .count → Sharing s a e o q i t → Sharing s a e o q (s .count) t
   skipped-last i p t h l m S =
       let z : i + (s .count - i) ≡ s .count = omega arith in
       rw z at (skipped (s .count - i) i t S (omega arith) (λ j b k.
@@ -87,8 +86,9 @@ module _ (s : Store) (a e o q : ℕ) (I : Inside s (zeros s)) where
       let v = ap (λ (r : Ranged BackingPages). from r) (used-at (s .ranges) (s .count) T j (omega arith)) in
       omega arith))
 
-pub starts-few : (s : Store) → Inside s (zeros s) → (g l : ℕ) → l ≡ startsBefore g (rangedOf (used s)) → l ≤ s .count
-starts-few s I g l h = omega (arith, starts-count (s .ranges) (s .count) (inside-table s (zeros s) I) g)
+-- the ranges that begin before a page are in the table
+pub begun-few : (s : Store) → Inside s (zeros s) → (g l : ℕ) → l ≡ startsBefore g (rangedOf (used s)) → l ≤ s .count
+begun-few s I g l h = omega (arith, starts-count (s .ranges) (s .count) (inside-table s (zeros s) I) g)
 
 -- ---- n whole pages from page p of object src on, which is page a of the line
 module _ (s : Store) (src p o q n a : ℕ) (ea : a ≡ line src p) (I : Inside s (zeros s)) (room : s .count + 2 * met src p n (workOf s (zeros s)) ≤ 512) where

@@ -9,7 +9,7 @@ use Rattle.pages.specs.Any.{zeros}
 use Rattle.shares.specs.Sharing.{Sharing, sharing-inside, sharing-small, sharing-sharable, sharing-turn}
 use Rattle.shares.specs.Tidied.{tidied}
 use Rattle.shares.specs.Together.{Together}
-use Rattle.spread.specs.Spread.{sharing-first, sharing-last, sharing-none, starts-few}
+use Rattle.spread.specs.Spread.{sharing-first, sharing-last, sharing-none, begun-few}
 use borrow.Author.Needs.{needs}
 use native.Mathlib.Omega.{arith}
 use Rattle.spread.proofs.copy_range_to_object_tree.Statement.{statement}
@@ -59,7 +59,7 @@ range-requires c κs =
     let a = c .before .before .before .before .before .before .before .before .before .before .args in
     let P = c .before .before .before .before .before .before .before .before .before .before .pre in
     let s = storeOf (a .sheet .now) in
-    let m = starts-few s (P .1) _ _ (c .before .before .before .before .before .starts-before .ensures) in
+    let m = begun-few s (P .1) _ _ (c .before .before .before .before .before .starts-before .ensures) in
     let f = P .1 .few-ranges in
     let h : c .before .before .loop .i < c .before .before .before .before .before .starts-before .result = search needs in
     omega arith
@@ -71,7 +71,7 @@ share-part-requires c κs =
     let s = storeOf (a .sheet .now) in
     let g = c .before .before .before .before .before .before .before .before .before .before .before .line-of in
     let l = c .before .before .before .before .loop in
-    let m = starts-few s (P .1) _ _ (c .before .before .before .before .before .before .before .starts-before .ensures) in
+    let m = begun-few s (P .1) _ _ (c .before .before .before .before .before .before .before .starts-before .ensures) in
     let b : l .i < c .before .before .before .before .before .before .before .starts-before .result = search needs in
     let h : l .i < s .count = omega arith in
     let r = c .before .range .ensures in
@@ -96,7 +96,7 @@ loop-again c =
     let s = storeOf (a .sheet .now) in
     let g = c .before .before .before .before .before .before .before .before .before .before .before .before .line-of in
     let l = c .before .before .before .before .before .loop in
-    let m = starts-few s (P .1) _ _ (c .before .before .before .before .before .before .before .before .starts-before .ensures) in
+    let m = begun-few s (P .1) _ _ (c .before .before .before .before .before .before .before .before .starts-before .ensures) in
     let b : l .i < c .before .before .before .before .before .before .before .before .starts-before .result = search needs in
     let h : l .i < s .count = omega arith in
     let t = tidied (storeOf (l .sheet)) in
@@ -120,7 +120,7 @@ returns-2 c =
     let s = storeOf (a .sheet .now) in
     let g = c .before .before .before .before .before .before .before .before .before .before .line-of in
     let l = c .before .before .before .loop in
-    let m = starts-few s (P .1) _ _ (c .before .before .before .before .before .before .starts-before .ensures) in
+    let m = begun-few s (P .1) _ _ (c .before .before .before .before .before .before .starts-before .ensures) in
     let b : c .before .before .before .before .before .before .starts-before .result ≤ l .i = search needs in
     let h : l .i ≤ s .count = omega (arith, l .inv .0) in (
       rw (c .trim .ensures .0)

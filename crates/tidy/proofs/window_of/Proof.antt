@@ -1,6 +1,5 @@
 -- `tidy::window_of` meets its contract.
 use Rattle.tidy.specs.Tidy.{next-all, wide}
-use native.Mathlib.Omega.{arith}
 use borrow.Author.Needs.{needs}
 use Rattle.tidy.proofs.window_of.Statement.{statement}
 use Rattle.tidy.proofs.window_of.Tie as tie
