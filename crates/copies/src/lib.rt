@@ -2,38 +2,53 @@
 use calls::Reply;
 use page::PageNumber;
 use store::Store;
+ghost use mathlib.Core.Path.{_≡_};
 ghost use Prim.Native.Nat.{_+_};
+ghost use lib.ListN.{length};
 ghost use Rattle.book.specs.Copy.{copyEqual, copying, zeroing};
 ghost use Rattle.book.specs.Book.{copy, shadow, zeroOut, done};
 ghost use Rattle.store.specs.Spare.{workOf};
+ghost use Rattle.sheet.specs.Sheet.{storeOf};
 ghost use Rattle.calls.specs.With.{DidWith};
 ghost use Rattle.copies.specs.Room.{ZeroRoom, EqualRoom, CopyRoom, Worked};
 
 // "Zeroing leaves whole pages uncovered and clears bytes in present partial pages."
-fn zero_span(s: Store, pool: &mut [u8], object: u32, offset: usize, n: usize) -> Store
-    requires { ⌜ ZeroRoom s (now pool) object offset n ⌝ }
-    ensures { λ t. ⌜ Worked s (now (pool .entry)) (zeroing object offset n (workOf s (now (pool .entry)))) t (now (pool .exit)) ⌝ }
+fn zero_span(sheet: &mut [u64; 2579], pool: &mut [u8], object: u32, offset: usize, n: usize)
+    requires { ⌜ (length (now sheet) ≡ 2579) × (ZeroRoom (storeOf (now sheet)) (now pool) object offset n) ⌝ }
+    ensures { λ _. ⌜ (Worked (storeOf (now (sheet .entry))) (now (pool .entry)) (zeroing object offset n (workOf (storeOf (now (sheet .entry))) (now (pool .entry)))) (storeOf (now (sheet .exit))) (now (pool .exit))) × (length (now (sheet .exit)) ≡ 2579) ⌝ }
 {
     let p = PageNumber::span_of(offset, n);
-    let a = pages::clear_page(s, pool, object, offset, p.head);
+    steps::clear_page(sheet, pool, object, offset, p.head);
     let whole = offset + p.head;
-    let b = shares::uncover(a, object, PageNumber::from_offset(whole), p.whole);
+    spread::uncover(sheet, object, PageNumber::from_offset(whole), p.whole);
     let tail = whole + p.whole * PageNumber::PAGE_SIZE;
-    pages::clear_page(b, pool, object, tail, p.tail)
+    steps::clear_page(sheet, pool, object, tail, p.tail);
 }
 
 pub fn zero_ranges(s: Store, pool: &mut [u8], object: u32, offset: usize, n: usize) -> Reply
     ensures { λ r. ⌜ DidWith (zeroOut object offset n) s (now (pool .entry)) (r .number) done (r .store) (now (pool .exit)) ⌝ }
 {
-    let k = refuse::zero(s, pool.len(), object, offset, n);
+    let mut sheet = [0u64; 2579];
+    let mut holders = [0u32; 2048];
+    let mut links = [0u32; 2048];
+    let k = enter::zero(
+        s,
+        &mut sheet,
+        &mut holders,
+        &mut links,
+        pool.len(),
+        object,
+        offset,
+        n,
+    );
     if 0 < k {
         return Reply {
             number: k,
             store: s,
         };
     }
-    let w = zero_span(s, pool, object, offset, n);
-    let t = access::closed(w);
+    zero_span(&mut sheet, pool, object, offset, n);
+    let t = closing::closed(&sheet);
     Reply {
         number: 0,
         store: t,

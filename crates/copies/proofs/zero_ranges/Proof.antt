@@ -1,3 +1,4 @@
+-- `copies::zero_ranges` meets its contract.
 use Rattle.book.specs.Book.{zeroOut, done}
 use Rattle.copies.specs.Enters.{zero-enters, zero-done}
 use mathlib.Core.Path.{_≡_, refl, sym, _∙_}
@@ -14,15 +15,17 @@ zero-requires c κs = search needs
 
 returns : tie.Need-returns
 returns c =
-    let a = c .before .before .before .args in
+    let a = c .before .before .before .before .before .before .args in
     with-refused (zeroOut (a .object) (a .offset) (a .n)) (a .s) (a .pool .now) done (c .before .zero .result) (c .if1 .taken) (c .before .zero .ensures .0 (a .pool .now) refl) (λ j. refl)
 
 zero-span-requires : tie.Need-zero-span-requires
 zero-span-requires c κs =
-    let a = c .before .before .before .before .args in
-    let k : c .before .before .zero .result ≡ 0 = omega (arith, c .before .if1 .left) in
-    let r : 0 ≡ refusal (a .s) (a .pool .now) (zeroOut (a .object) (a .offset) (a .n)) = sym k ∙ c .before .before .zero .ensures .0 (a .pool .now) refl in
-    zero-enters (a .s) (a .pool .now) (c .before .before .zero .ensures .1) (a .object) (a .offset) (a .n) r
+    let a = c .before .before .before .before .before .before .before .before .args in
+    let e = c .before .before .before .zero .ensures in
+    let k : c .before .before .before .zero .result ≡ 0 = omega (arith, c .before .before .if1 .left) in
+    let E = e .2 k in
+    let r : 0 ≡ refusal (a .s) (a .pool .now) (zeroOut (a .object) (a .offset) (a .n)) = sym k ∙ e .0 (a .pool .now) refl in
+    (E .long, rw (E .store) (zero-enters (a .s) (a .pool .now) (e .1) (a .object) (a .offset) (a .n) r))
 
 closed-requires : tie.Need-closed-requires
 closed-requires c κs = search needs
@@ -32,11 +35,14 @@ same-length c = search needs
 
 returns-2 : tie.Need-returns-2
 returns-2 c =
-    let a = c .before .before .before .before .before .before .before .before .args in
-    let k : c .before .before .before .before .before .before .zero .result ≡ 0 = omega (arith, c .before .before .before .before .before .if1 .left) in
-    let r : 0 ≡ refusal (a .s) (a .pool .now) (zeroOut (a .object) (a .offset) (a .n)) = sym k ∙ c .before .before .before .before .before .before .zero .ensures .0 (a .pool .now) refl in
+    let a = c .before .before .before .before .before .before .before .before .before .before .before .before .before .args in
+    let e = c .before .before .before .before .before .before .before .before .zero .ensures in
+    let k : c .before .before .before .before .before .before .before .before .zero .result ≡ 0 = omega (arith, c .before .before .before .before .before .before .before .if1 .left) in
+    let E = e .2 k in
+    let r : 0 ≡ refusal (a .s) (a .pool .now) (zeroOut (a .object) (a .offset) (a .n)) = sym k ∙ e .0 (a .pool .now) refl in
+    let S = rw (E .store) at (c .before .before .before .before .zero-span .ensures .0) in
     let m = c .closed .ensures in
-    handed _ _ _ _ _ _ _ _ (m .0) (zero-done (a .s) (a .pool .now) (c .before .before .before .before .before .before .zero .ensures .1) (a .object) (a .offset) (a .n) r _ _ (c .before .before .before .zero-span .ensures) _ (m .1))
+    handed _ _ _ _ _ _ _ _ (m .0) (zero-done (a .s) (a .pool .now) (e .1) (a .object) (a .offset) (a .n) r _ _ S _ (m .1))
 
 pub zero-ranges-spec : {M : Type 1} → statement M
 zero-ranges-spec =
