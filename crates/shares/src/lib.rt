@@ -48,7 +48,7 @@ fn put_and_trim(s: Store, n: PageRange) -> Store
 }
 
 // The part of a range between the pages a and e of the line, as a range of `object` whose page `to` stands for a.
-fn moved_part(r: PageRange, a: usize, e: usize, object: u32, to: PageNumber) -> Piece
+pub fn moved_part(r: PageRange, a: usize, e: usize, object: u32, to: PageNumber) -> Piece
     requires { ⌜ (Small r) × (to .0 + (e - a) ≤ 262144) ⌝ }
     ensures { λ q. ⌜ IsMoved a e object (to .0) r q ⌝ }
 {

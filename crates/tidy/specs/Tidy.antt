@@ -4,8 +4,8 @@ use mathlib.Core.Bool.{Bool, true, false, not}
 use mathlib.Core.List.{List}
 use Prim.Native.Nat.{ℕ, _+_, _*_, _/_, _%_, _≤_, _<_}
 use native.Mathlib.Omega.{arith}
-use lib.ListN.{length, getD, set}
-use lib.Seq.{set-getD}
+use lib.ListN.{drop, length, length-drop, getD, set, take}
+use lib.Seq.{length-take-le, set-getD, take-all}
 use Rattle.places.specs.declared.Place.{Place}
 use Rattle.store.specs.declared.Store.{Store}
 use Rattle.lists.specs.Test.{by-test}
@@ -20,17 +20,36 @@ use Rattle.chains.specs.Chains.{Chained}
 use Rattle.columns.specs.Ranges.{Spans, Tags}
 use Rattle.store.specs.Abs.{used}
 use Rattle.sheet.specs.Sheet.{withPlace, withPlaces}
-use Rattle.sound_places.specs.Windows.{Met, walk-named, outside}
+use Rattle.sound_places.specs.Windows.{Met, Wide, walk-named, outside}
 
--- the columns of a store's ranges, and their chains
-pub record Told (s : Store) (ts xs hs ns : List ℕ) : Type 0 where
-  pub few : s .count ≤ 512
-  pub tags : Tags (s .ranges) (s .count) ts
-  pub spans : Spans (s .ranges) (s .count) xs
-  pub chained : Chained ts (s .count) hs ns
+-- how long the columns and the links of the ranges are
+pub record Long (ts xs l : List ℕ) : Type 0 where
+  pub tags : length ts ≡ 512
+  pub spans : length xs ≡ 512
+  pub links : length l ≡ 2048
 
-pub told-all : (s : Store) (n : ℕ) (ts xs hs ns : List ℕ) → n ≡ s .count → n ≤ 512 → Tags (s .ranges) n ts → Spans (s .ranges) n xs → Chained ts n hs ns → Told s ts xs hs ns
-told-all s n ts xs hs ns e h t x c = record { few = rw (← e) h; tags = rw (← e) t; spans = rw (← e) x; chained = rw (← e) c }
+-- the columns of a store's n ranges, and their chains: heads, and links behind them
+pub record Told (s : Store) (n : ℕ) (ts xs l : List ℕ) : Type 0 where
+  pub count : n ≡ s .count
+  pub few : n ≤ 512
+  pub tags : Tags (s .ranges) n ts
+  pub spans : Spans (s .ranges) n xs
+  pub chained : Chained ts n (take 1024 l) (drop 1024 l)
+  pub long : Long ts xs l
+
+-- the parts that the windows are looked for in
+module _ (w ts xs l : List ℕ) (L : Long ts xs l) where
+  pub next-all : take 1024 (drop 1024 l) ≡ drop 1024 l
+  next-all = take-all 1024 (drop 1024 l) (simp length-drop (omega (arith, L .links)))
+
+  pub wide : length w ≡ 2579 → Wide (take 512 w) ts xs (take 1024 l) (take 1024 (drop 1024 l))
+  wide h = record {
+    lines = length-take-le 512 w (omega arith);
+    tags = L .tags;
+    spans = L .spans;
+    heads = length-take-le 1024 l (omega (arith, L .links));
+    next = length-take-le 1024 (drop 1024 l) (simp length-drop (omega (arith, L .links)));
+  }
 
 -- ---- one turn of a loop that puts g of each place in its place: the store S, with the first f places done, is T
 module _ (g : Place → Place) (S T : Store) (f : ℕ) (h : f < length (S .places)) (e : T ≡ withPlaces (mapped g (S .places) f) S) where
@@ -59,17 +78,18 @@ kept-zero rs p h =
     by-test (named (p .backing) (p .index) rs) (λ t. rw t) (λ t. rw t (sym z))
 
 -- ---- the place that trimming keeps, by what the walk along the chains meets
-module _ (S : Store) (full : length (S .ranges) ≡ 512) (ts xs hs ns : List ℕ) (T : Told S ts xs hs ns) (p : Place) (small : p .index < 4294967296) (r : ℕ)
-    (M : Met ts xs hs ns (p .backing * 4294967296 + p .index) r) where
+module _ (S : Store) (full : length (S .ranges) ≡ 512) (n : ℕ) (ts xs l : List ℕ) (T : Told S n ts xs l) (p : Place) (small : p .index < 4294967296) (r : ℕ)
+    (M : Met ts xs (take 1024 l) (drop 1024 l) n (p .backing * 4294967296 + p .index) r) where
   abbrev x : ℕ
   x = p .backing * 4294967296 + p .index
 
-  told : named (p .backing) (p .index) (rangesOf (used S)) ≡ not (allBelow (outside ts xs (x / 4294967296) (x % 4294967296)) (getD hs (x / 4294967296 % 1024) 0))
+  told : named (p .backing) (p .index) (rangesOf (used S)) ≡ not (allBelow (outside ts xs (x / 4294967296) (x % 4294967296)) (getD (take 1024 l) (x / 4294967296 % 1024) 0))
   told =
       let b : p .backing ≡ x / 4294967296 = omega arith in
       let i : p .index ≡ x % 4294967296 = omega arith in
-      walk-named (S .ranges) ts xs (S .count) (omega (arith, T .few)) (T .tags) (T .spans) hs ns (T .chained) (p .backing) (p .index)
-      ∙ ap₂ (λ c j. not (allBelow (outside ts xs c j) (getD hs (c % 1024) 0))) b i
+      ap (λ (k : ℕ). named (p .backing) (p .index) (rangesOf (take k (S .ranges)))) (sym (T .count))
+      ∙ walk-named (S .ranges) ts xs n (omega (arith, T .few)) (T .tags) (T .spans) (take 1024 l) (drop 1024 l) (T .chained) (p .backing) (p .index)
+      ∙ ap₂ (λ c j. not (allBelow (outside ts xs c j) (getD (take 1024 l) (c % 1024) 0))) b i
 
   -- nothing is met: the place goes
   pub met-none : r ≡ 0 → nowhere ≡ keptPlace (rangesOf (used S)) p

@@ -2,43 +2,64 @@
 use places::Place;
 ghost use mathlib.Core.Path.{_≡_};
 ghost use Prim.Native.Nat.{_≤_};
-ghost use lib.ListN.{length};
+ghost use lib.ListN.{drop, length, take};
 ghost use Rattle.table.specs.Table.{rangesOf};
 ghost use Rattle.columns.specs.Ranges.{Spans, Tags};
 ghost use Rattle.store.specs.Abs.{used};
 ghost use Rattle.store.specs.Edits.{trimmed, vacated};
 ghost use Rattle.sheet.specs.Sheet.{storeOf, withPlaces};
-ghost use Rattle.tidy.specs.Tidy.{Told};
+ghost use Rattle.sound_places.specs.Windows.{Hinted, Met};
+ghost use Rattle.tidy.specs.Tidy.{Long, Told};
 
 // The columns of the table: each range's backing, and its offset and length.
-pub fn columns_of(
-    sheet: &[u64; 2579],
-    count: usize,
-    tags: &mut [usize; 1024],
-    spans: &mut [u64; 512],
-)
-    requires { ⌜ (count ≤ 512) × (length (now tags) ≡ 1024) × (length (now spans) ≡ 512) ⌝ }
-    ensures { λ _. ⌜ (Tags (storeOf (now (sheet .entry)) .ranges) count (now (tags .exit))) × (Spans (storeOf (now (sheet .entry)) .ranges) count (now (spans .exit))) ⌝ }
+fn columns_of(sheet: &[u64; 2579], count: usize, tags: &mut [u64; 512], spans: &mut [u64; 512])
+    requires { ⌜ (count ≤ 512) × (length (now tags) ≡ 512) × (length (now spans) ≡ 512) ⌝ }
+    ensures { λ _. ⌜ (Tags (storeOf (now (sheet .entry)) .ranges) count (now (tags .exit))) × (Spans (storeOf (now (sheet .entry)) .ranges) count (now (spans .exit))) × (length (now (tags .exit)) ≡ 512) × (length (now (spans .exit)) ≡ 512) ⌝ }
 {
     let mut i: usize = 0;
     while i < count {
         let r = sheet::range(sheet, i);
         let k = r.backing;
-        tags[i] = columns::tag(k);
+        tags[i] = columns::tag(k) as u64;
         spans[i] = columns::span(r);
         i += 1;
     }
 }
 
+// A link to a range that has the spot x in its window, or 0 where there is none.
+fn window_of(
+    sheet: &[u64],
+    tags: &[u64],
+    spans: &[u64],
+    links: &[u32],
+    count: usize,
+    hint: usize,
+    x: u64,
+) -> usize
+    requires { ⌜ (length (now sheet) ≡ 2579) × Long (now tags) (now spans) (now links) × Hinted (now tags) (take 1024 (now links)) (drop 1024 (now links)) count hint ⌝ }
+    ensures { λ r. ⌜ Met (now (tags .entry)) (now (spans .entry)) (take 1024 (now (links .entry))) (drop 1024 (now (links .entry))) count x r ⌝ }
+{
+    sound_places::frame_window(
+        &sheet[0..512],
+        tags,
+        spans,
+        &links[0..1024],
+        &links[1024..2048],
+        count,
+        hint,
+        x,
+    )
+}
+
 // Each frame kept where it stands if a range has that in its window, else nowhere. A frame's range is looked for from that of the frame before on.
-pub fn trim_along(
+fn trim_along(
     sheet: &mut [u64; 2579],
-    tags: &[usize; 1024],
+    count: usize,
+    tags: &[u64; 512],
     spans: &[u64; 512],
-    heads: &[u32; 1024],
-    next: &[u32; 1024],
+    links: &[u32; 2048],
 )
-    requires { ⌜ (length (now sheet) ≡ 2579) × (storeOf (now sheet) .frames ≤ 1024) × Told (storeOf (now sheet)) (now tags) (now spans) (now heads) (now next) ⌝ }
+    requires { ⌜ (length (now sheet) ≡ 2579) × (storeOf (now sheet) .frames ≤ 1024) × Told (storeOf (now sheet)) count (now tags) (now spans) (now links) ⌝ }
     ensures { λ _. ⌜ (storeOf (now (sheet .exit)) ≡ withPlaces (trimmed (storeOf (now (sheet .entry)) .frames) (rangesOf (used (storeOf (now (sheet .entry))))) (storeOf (now (sheet .entry)) .places)) (storeOf (now (sheet .entry)))) × (length (now (sheet .exit)) ≡ 2579) ⌝ }
 {
     let frames = sheet::frames(sheet);
@@ -51,7 +72,7 @@ pub fn trim_along(
             f += 1;
             continue;
         }
-        let met = sound_places::frame_window(tags, spans, heads, next, hint, x);
+        let met = window_of(sheet, tags, spans, links, count, hint, x);
         if met == 0 {
             let q = Place {
                 backing: 0,
@@ -72,13 +93,12 @@ pub fn trim(sheet: &mut [u64; 2579])
     ensures { λ _. ⌜ (storeOf (now (sheet .exit)) ≡ withPlaces (trimmed (storeOf (now (sheet .entry)) .frames) (rangesOf (used (storeOf (now (sheet .entry))))) (storeOf (now (sheet .entry)) .places)) (storeOf (now (sheet .entry)))) × (length (now (sheet .exit)) ≡ 2579) ⌝ }
 {
     let count = sheet::count(sheet);
-    let mut tags = [0usize; 1024];
+    let mut tags = [0u64; 512];
     let mut spans = [0u64; 512];
-    let mut heads = [0u32; 1024];
-    let mut next = [0u32; 1024];
+    let mut links = [0u32; 2048];
     columns_of(sheet, count, &mut tags, &mut spans);
-    chains::chain(&tags, count, &mut heads, &mut next);
-    trim_along(sheet, &tags, &spans, &heads, &next);
+    chains::link(&tags, count, &mut links);
+    trim_along(sheet, count, &tags, &spans, &links);
 }
 
 // What stands at index i of backing b taken away.

@@ -13,7 +13,7 @@ use Rattle.tidy.proofs.columns_of.Tie as tie
 use Rattle.table.specs.declared.PageRange.{PageRange}
 
 abbrev Inv-loop : tie.InvT-loop
-Inv-loop sheet count tags₀ spans₀ i₀ tags spans i = (i ≤ count) × ((length tags ≡ 1024) × Tags (storeOf sheet .ranges) i tags) × ((length spans ≡ 512) × Spans (storeOf sheet .ranges) i spans)
+Inv-loop sheet count tags₀ spans₀ i₀ tags spans i = (i ≤ count) × ((length tags ≡ 512) × Tags (storeOf sheet .ranges) i tags) × ((length spans ≡ 512) × Spans (storeOf sheet .ranges) i spans)
 
 abbrev μ-loop : tie.MeasureT-loop
 μ-loop sheet count tags₀ spans₀ i₀ tags spans i = count - i
@@ -72,7 +72,7 @@ returns : tie.Need-returns Inv-loop μ-loop
 returns c =
     let l = c .before .loop in
     let e : l .i ≡ c .before .before .args .count = omega arith in
-    (rw (← e) (l .inv .1 .1), rw (← e) (l .inv .2 .1))
+    (rw (← e) (l .inv .1 .1), rw (← e) (l .inv .2 .1), l .inv .1 .0, l .inv .2 .0)
 
 pub columns-of-spec : {M : Type 1} → statement M
 columns-of-spec =

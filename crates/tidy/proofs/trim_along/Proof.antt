@@ -1,14 +1,14 @@
 -- `tidy::trim_along` meets its contract. The loop's invariant: the places of the first `f` frames are done, and `hint` is a link. The measure is the number of
 -- frames left.
 use mathlib.Core.Path.{_≡_, ap, sym, _∙_}
-use Prim.Native.Nat.{ℕ, _-_, _≤_}
-use lib.ListN.{length}
+use Prim.Native.Nat.{ℕ, _-_, _≤_, _<_}
+use lib.ListN.{drop, length, take}
 use Rattle.lists.specs.Mapped.{mapped}
 use Rattle.table.specs.Table.{rangesOf}
 use Rattle.trim.specs.Trim.{keptPlace}
 use Rattle.store.specs.Abs.{used}
 use Rattle.sheet.specs.Sheet.{storeOf, withPlaces}
-use Rattle.sound_places.specs.Windows.{Hinted, hinted-none}
+use Rattle.sound_places.specs.Windows.{Hinted}
 use Rattle.tidy.specs.Tidy.{kept-zero, met-none, met-some, turn-keep, turn-set, turns-none}
 use borrow.Author.Needs.{needs}
 use native.Mathlib.Omega.{arith}
@@ -17,10 +17,10 @@ use Rattle.tidy.proofs.trim_along.Tie as tie
 use Rattle.sheet.specs.Edits.{storeOf-sized}
 
 abbrev Inv-loop : tie.InvT-loop
-Inv-loop sheet₀ tags spans heads next frames hint₀ f₀ sheet hint f = (f ≤ frames) × (length sheet ≡ 2579) × Hinted tags heads next hint × (storeOf sheet ≡ withPlaces (mapped (keptPlace (rangesOf (used (storeOf sheet₀)))) (storeOf sheet₀ .places) f) (storeOf sheet₀))
+Inv-loop sheet₀ count tags spans links frames hint₀ f₀ sheet hint f = (f ≤ frames) × (length sheet ≡ 2579) × Hinted tags (take 1024 links) (drop 1024 links) count hint × (storeOf sheet ≡ withPlaces (mapped (keptPlace (rangesOf (used (storeOf sheet₀)))) (storeOf sheet₀ .places) f) (storeOf sheet₀))
 
 abbrev μ-loop : tie.MeasureT-loop
-μ-loop sheet₀ tags spans heads next frames hint₀ f₀ sheet hint f = frames - f
+μ-loop sheet₀ count tags spans links frames hint₀ f₀ sheet hint f = frames - f
 
 frames-requires : tie.Need-frames-requires Inv-loop μ-loop
 frames-requires c κs = search needs
@@ -31,7 +31,7 @@ loop-holds c =
     let t = c .before .before .pre .2 in (
       search needs,
       search needs,
-      hinted-none (a .tags .now) (a .heads .now) (a .next .now) (record { count = storeOf (a .sheet .now) .count; few = t .few; chained = t .chained }),
+      record { few = t .few; chained = t .chained; low = omega arith },
       turns-none (keptPlace (rangesOf (used (storeOf (a .sheet .now))))) (storeOf (a .sheet .now)),
     )
 
@@ -70,8 +70,8 @@ loop-again c =
           (ap g (sym (p .ensures)) ∙ kept-zero (rangesOf (used s)) (p .result) (c .if1 .taken) ∙ p .ensures),
     )
 
-frame-window-requires : tie.Need-frame-window-requires Inv-loop μ-loop
-frame-window-requires c κs = search needs
+window-of-requires : tie.Need-window-of-requires Inv-loop μ-loop
+window-of-requires c κs = search needs
 
 set-place-requires : tie.Need-set-place-requires Inv-loop μ-loop
 set-place-requires c κs = search needs
@@ -84,13 +84,16 @@ loop-less-2 c = search needs
 
 loop-again-2 : tie.Need-loop-again-2 Inv-loop μ-loop
 loop-again-2 c =
-    let a = c .before .before .before .before .before .before .before .before .before .before .before .before .before .args in
-    let l = c .before .before .before .before .before .before .before .before .before .before .loop in
+    let a = c .before .before .before .before .before .before .before .before .before .before .before .before .before .before .before .before .before .before .args in
+    let l = c .before .before .before .before .before .before .before .before .before .before .before .before .before .before .before .loop in
     let s = storeOf (a .sheet .now) in
-    let p = c .before .before .before .before .before .before .before .place in
+    let p = c .before .before .before .before .before .before .before .before .before .before .before .before .place in
     let g = keptPlace (rangesOf (used s)) in
-    let t = c .before .before .before .before .before .before .before .before .before .before .before .before .before .pre .2 in
-    let z = met-none s (storeOf-sized (a .sheet .now) .ranges) (a .tags .now) (a .spans .now) (a .heads .now) (a .next .now) t (p .result) (search needs) _ (c .before .before .before .frame-window .ensures) (c .before .before .if2 .taken) in (
+    let t = c .before .before .before .before .before .before .before .before .before .before .before .before .before .before .before .before .before .before .pre .2 in
+    let few = c .before .before .before .before .before .before .before .before .before .before .before .before .before .before .before .before .before .before .pre .1 in
+    let e = c .before .before .before .before .before .before .before .before .before .before .before .before .before .before .before .before .frames .ensures in
+    let h : l .f < c .before .before .before .before .before .before .before .before .before .before .before .before .before .before .before .before .frames .result = search needs in
+    let z = met-none s (storeOf-sized (a .sheet .now) .ranges) (a .count) (a .tags .now) (a .spans .now) (a .links .now) t (p .result) (search needs) _ (c .before .before .before .window-of .ensures) (c .before .before .if2 .taken) in (
       search needs,
       search needs,
       l .inv .2,
@@ -106,17 +109,17 @@ loop-less-3 c = search needs
 
 loop-again-3 : tie.Need-loop-again-3 Inv-loop μ-loop
 loop-again-3 c =
-    let a = c .before .before .before .before .before .before .before .before .before .before .before .args in
-    let l = c .before .before .before .before .before .before .before .before .loop in
+    let a = c .before .before .before .before .before .before .before .before .before .before .before .before .before .before .before .before .args in
+    let l = c .before .before .before .before .before .before .before .before .before .before .before .before .before .loop in
     let s = storeOf (a .sheet .now) in
-    let p = c .before .before .before .before .before .place in
+    let p = c .before .before .before .before .before .before .before .before .before .before .place in
     let g = keptPlace (rangesOf (used s)) in
-    let t = c .before .before .before .before .before .before .before .before .before .before .before .pre .2 in
-    let m = c .before .frame-window .ensures in
-    let z = met-some s (storeOf-sized (a .sheet .now) .ranges) (a .tags .now) (a .spans .now) (a .heads .now) (a .next .now) t (p .result) (search needs) _ m (c .if2 .left) in (
+    let t = c .before .before .before .before .before .before .before .before .before .before .before .before .before .before .before .before .pre .2 in
+    let m = c .before .window-of .ensures in
+    let z = met-some s (storeOf-sized (a .sheet .now) .ranges) (a .count) (a .tags .now) (a .spans .now) (a .links .now) t (p .result) (search needs) _ m (c .if2 .left) in (
       search needs,
       search needs,
-      m .hinted,
+      record { few = t .few; chained = t .chained; low = m .low },
       turn-keep g s (storeOf (l .sheet)) (l .f) (omega (arith, storeOf-sized (a .sheet .now) .places)) (l .inv .3)
           (ap g (sym (p .ensures)) ∙ z ∙ p .ensures),
     )
@@ -146,7 +149,7 @@ trim-along-spec =
     add-f
     loop-less
     loop-again
-    frame-window-requires
+    window-of-requires
     set-place-requires
     add-f-2
     loop-less-2

@@ -1,0 +1,78 @@
+// WHOLE PAGES, shared with a source or left uncovered, on a sheet: only the table of ranges changes, and no byte.
+use page::PageNumber;
+use table::PageRange;
+use table::Piece;
+ghost use mathlib.Core.Path.{_≡_};
+ghost use mathlib.Core.List.{List};
+ghost use Prim.Native.Nat.{ℕ, _+_, _-_, _*_, _≤_, _<_, min};
+ghost use lib.ListN.{length};
+ghost use Rattle.ranges.specs.Range.{line};
+ghost use Rattle.book.specs.Pages as pages;
+ghost use Rattle.table.specs.Table.{Small};
+ghost use Rattle.store.specs.Spare.{workOf};
+ghost use Rattle.sheet.specs.Sheet.{storeOf};
+ghost use Rattle.pages.specs.Inside.{Inside};
+ghost use Rattle.pages.specs.Any.{zeros};
+ghost use Rattle.shares.specs.Reranged.{Reranged};
+ghost use Rattle.shares.specs.Together.{Sharable, Together};
+ghost use Rattle.shares.specs.Tidied.{tidied};
+
+// One source range met: its part is put into the table, and nothing is trimmed. Nothing where they do not meet.
+fn share_part(
+    sheet: &mut [u64; 2579],
+    r: PageRange,
+    a: usize,
+    e: usize,
+    object: u32,
+    to: PageNumber,
+)
+    requires { ⌜ (length (now sheet) ≡ 2579) × (Inside (tidied (storeOf (now sheet))) (zeros (storeOf (now sheet)))) × (Small r) × (to .0 + (e - a) ≤ 262144) × (Sharable (tidied (storeOf (now sheet))) a e r) ⌝ }
+    ensures { λ _. ⌜ (Together (tidied (storeOf (now (sheet .entry)))) a e object (to .0) r (tidied (storeOf (now (sheet .exit))))) × (length (now (sheet .exit)) ≡ 2579) ⌝ }
+{
+    match shares::moved_part(r, a, e, object, to) {
+        Piece::Empty => {}
+        Piece::Part(n) => rows::put_range(sheet, n),
+    }
+}
+
+// "For each source range met", n whole pages from page `from` of `source` are shared with `object` from page `to` on; uncovered ones are skipped. The
+// ranges are those at the start: what is put in lies in `object`, and the source's ranges stay. Places are trimmed once, at the end.
+pub fn copy_range_to_object_tree(
+    sheet: &mut [u64; 2579],
+    source: u32,
+    from: PageNumber,
+    object: u32,
+    to: PageNumber,
+    n: usize,
+)
+    requires { ⌜ (length (now sheet) ≡ 2579) × (Inside (storeOf (now sheet)) (zeros (storeOf (now sheet)))) × (source ≡ object → ⊥) × (from .0 + n ≤ 262144) × (to .0 + n ≤ 262144) × (storeOf (now sheet) .count + 2 * pages.met source (from .0) n (workOf (storeOf (now sheet)) (zeros (storeOf (now sheet)))) ≤ 512) ⌝ }
+    ensures { λ _. ⌜ ((x : List ℕ) → Inside (storeOf (now (sheet .entry))) x → Reranged (storeOf (now (sheet .entry))) x (pages.sharing source (from .0) object (to .0) n (workOf (storeOf (now (sheet .entry))) x)) (line object (to .0)) (storeOf (now (sheet .exit)))) × (length (now (sheet .exit)) ≡ 2579) ⌝ }
+{
+    let a = table::line_of(source, from);
+    let e = a + n;
+    let mut i = rows::ends_by(sheet, a);
+    let last = rows::starts_before(sheet, e);
+    if last <= i {
+        return;
+    }
+    let base = *sheet;
+    while i < last {
+        let r = sheet::range(&base, i);
+        share_part(sheet, r, a, e, object, to);
+        i += 1;
+    }
+    tidy::trim(sheet);
+}
+
+// "Zeroing leaves whole pages uncovered": n pages from `page` on.
+pub fn uncover(sheet: &mut [u64; 2579], object: u32, page: PageNumber, n: usize)
+    requires { ⌜ (length (now sheet) ≡ 2579) × (Inside (storeOf (now sheet)) (zeros (storeOf (now sheet)))) × (page .0 + n ≤ 262144) × (storeOf (now sheet) .count + min 1 n ≤ 512) ⌝ }
+    ensures { λ _. ⌜ ((x : List ℕ) → Inside (storeOf (now (sheet .entry))) x → Reranged (storeOf (now (sheet .entry))) x (pages.uncover object (page .0) n (workOf (storeOf (now (sheet .entry))) x)) (line object (page .0)) (storeOf (now (sheet .exit)))) × (length (now (sheet .exit)) ≡ 2579) ⌝ }
+{
+    if n == 0 {
+        return;
+    }
+    let a = table::line_of(object, page);
+    rows::cut_range(sheet, a, a + n);
+    tidy::trim(sheet);
+}
