@@ -9,10 +9,10 @@ ghost use mathlib.Core.List.{List};
 ghost use Prim.Native.Nat.{ℕ, _+_, _≤_, _<_};
 ghost use lib.ListN.{length, take};
 ghost use Rattle.ranges.specs.Range.{line, carve};
-ghost use Rattle.table.specs.Table.{Table, rangedOf};
+ghost use Rattle.table.specs.Table.{rangedOf};
 ghost use Rattle.places.specs.Places.{usedCount};
 ghost use Rattle.store.specs.Abs.{used, bookOf};
-ghost use Rattle.store.specs.Sound.{sound?};
+ghost use Rattle.store.specs.Sound.{sound?, Sound};
 ghost use Rattle.store.specs.Empty.{Blank};
 ghost use Rattle.sheet.specs.Sheet.{storeOf};
 ghost use Rattle.calls.specs.Drop.{Dropped};
@@ -172,40 +172,34 @@ pub fn create(frames: usize) -> Reply
     }
 }
 
-// A sound store without an object's ranges and the frames that stand in no window then.
-fn without_object(s: Store, object: u32) -> Store
-    requires { ⌜ (Table (s .ranges) (s .count)) × (s .frames ≤ 1024) × (object < 32) × (length (carve (line object 0) (line object 0 + 262144) (rangedOf (used s))) ≤ 512) ⌝ }
-    ensures { λ r. ⌜ Dropped s object r ⌝ }
+// The store that is left of a sheet without an object's ranges and the frames that stand in no window then.
+fn without_object(sheet: &mut [u64; 2579], object: u32) -> Store
+    requires { ⌜ (length (now sheet) ≡ 2579) × (Sound (storeOf (now sheet))) × (object < 32) × (length (carve (line object 0) (line object 0 + 262144) (rangedOf (used (storeOf (now sheet))))) ≤ 512) ⌝ }
+    ensures { λ r. ⌜ Dropped (storeOf (now (sheet .entry))) object r ⌝ }
 {
-    let ranges = s.ranges;
     let a = table::line_of(object, PageNumber(0));
-    let t = edit::cut_range(ranges, s.count, a, a + PageNumber::COUNT);
-    let rest = t.ranges;
-    let old = s.places;
-    let places = trim::trimmed(old, s.frames, rest, t.count);
-    let free = places::free_map(places, s.frames);
-    Store {
-        frames: s.frames,
-        live: s.live & !(1u32 << object),
-        count: t.count,
-        ranges: rest,
-        places,
-        free,
-    }
+    rows::cut_range(sheet, a, a + PageNumber::COUNT);
+    tidy::trim(sheet);
+    let live = sheet::live(sheet);
+    sheet::set_live(sheet, live & !(1u32 << object));
+    closing::closed(sheet)
 }
 
 // "A drop takes the ranges too."
 pub fn drop_object(s: Store, object: u32) -> Reply
     ensures { λ r. ⌜ Did (dropObject object) s (r .number) done (r .store) ⌝ }
 {
-    let k = refuse::drop_object(s, object);
+    let mut sheet = [0u64; 2579];
+    let mut holders = [0u32; 2048];
+    let mut links = [0u32; 2048];
+    let k = enter::drop_object(s, &mut sheet, &mut holders, &mut links, object);
     if 0 < k {
         return Reply {
             number: k,
             store: s,
         };
     }
-    let t = without_object(s, object);
+    let t = without_object(&mut sheet, object);
     Reply {
         number: 0,
         store: t,
