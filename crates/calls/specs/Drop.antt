@@ -1,10 +1,10 @@
 -- What is left of a store once an object is dropped.
-use mathlib.Core.Path.{_≡_, ap, sym, _∙_}
+use mathlib.Core.Path.{_≡_, ap, sym, subst, _∙_}
 use mathlib.Core.Logic.{inr}
 use mathlib.Core.List.{List, []}
 use Prim.Native.Nat.{ℕ, _+_, _-_, _*_, _%_, _^_, _≤_, _<_}
 use native.Mathlib.Omega.{arith}
-use lib.ListN.{length, length-map}
+use lib.ListN.{length, length-map, take}
 use lib.Bits.{bitAnd}
 use Rattle.store.specs.declared.Store.{Store}
 use Rattle.ranges.specs.Range.{line, carve}
@@ -14,6 +14,7 @@ use Rattle.book.specs.Book.{dropObject, done, perform, entry}
 use Rattle.laws.specs.Accepted.{drop-rows}
 use Rattle.places.specs.Places.{FreeMap}
 use Rattle.table.specs.Table.{rangesOf, rangedOf, numberOf}
+use Rattle.edit.specs.declared.RangeTable.{RangeTable}
 use Rattle.edit.specs.Edit.{cutTable}
 use Rattle.store.specs.Abs.{used, tableOf, bookOf}
 use Rattle.store.specs.Sound.{Sound, Sized}
@@ -26,6 +27,8 @@ use Rattle.store.specs.Live.{live-cleared}
 use Rattle.store.specs.Good.{sound-table}
 use Rattle.store.specs.Back.{Besides, sound-besides}
 use Rattle.refuse.specs.Refuse.{refusal}
+use Rattle.sheet.specs.Sheet.{withFree, withLive, withPlaces}
+use Rattle.rows.specs.Edit.{CutIs}
 use Rattle.calls.specs.Calls.{Did, did-done}
 use Rattle.calls.specs.Kept.{was-sound, accepted, left-sound, still-sound}
 
@@ -37,6 +40,32 @@ pub record Dropped (s : Store) (o : ℕ) (t : Store) : Type 0 where
   pub few : t .count ≤ 512
   pub places : t .places ≡ trimmed (s .frames) (rangesOf (used t)) (s .places)
   pub bits : FreeMap (s .frames) (t .places) (t .free)
+
+-- the steps on a sheet: the table cut, the places trimmed, the name taken, the free map made anew
+module _ (s t u v r : Store) (o n : ℕ) (C : CutIs (line o 0) (line o 0 + 262144) s t) (trim : u ≡ withPlaces (trimmed (t .frames) (rangesOf (used t)) (t .places)) t)
+    (name : v ≡ withLive n u) (made : r ≡ withFree (r .free) v) where
+  same-table : tableOf r ≡ tableOf t
+  same-table = ap tableOf made ∙ ap tableOf name ∙ ap tableOf trim
+
+  same-frames : v .frames ≡ s .frames
+  same-frames = ap (λ (q : Store). q .frames) name ∙ ap (λ (q : Store). q .frames) trim ∙ ap (λ (q : Store). q .frames) (C .same)
+
+  same-places : r .places ≡ v .places
+  same-places = ap (λ (q : Store). q .places) made
+
+  pub dropped : n ≡ bitAnd (u .live) (2 ^ 32 - 1 - 1 * 2 ^ o % 2 ^ 32) → FreeMap (v .frames) (v .places) (r .free) → Dropped s o r
+  dropped e F = record {
+    frames = ap (λ (q : Store). q .frames) made ∙ same-frames;
+    live = ap (λ (q : Store). q .live) made ∙ ap (λ (q : Store). q .live) name ∙ e
+        ∙ ap (λ (q : Store). bitAnd (q .live) (2 ^ 32 - 1 - 1 * 2 ^ o % 2 ^ 32)) trim
+        ∙ ap (λ (q : Store). bitAnd (q .live) (2 ^ 32 - 1 - 1 * 2 ^ o % 2 ^ 32)) (C .same);
+    table = same-table ∙ ap tableOf (C .same);
+    few = let m = ap (λ (q : RangeTable). q .count) same-table in omega (arith, C .table .few);
+    places = same-places ∙ ap (λ (q : Store). q .places) name ∙ ap (λ (q : Store). q .places) trim
+        ∙ ap (λ (q : Store). trimmed (q .frames) (rangesOf (used t)) (q .places)) (C .same)
+        ∙ ap (λ (q : RangeTable). trimmed (s .frames) (rangesOf (take (q .count) (q .ranges))) (s .places)) (sym same-table);
+    bits = subst (λ (k : ℕ). FreeMap k (r .places) (r .free)) same-frames (subst (λ l. FreeMap (v .frames) l (r .free)) (sym same-places) F);
+  }
 
 module _ (s : Store) (o : ℕ) (Z : Sized s) (r : (x : List ℕ) → 0 ≡ refusal s x (dropObject o)) where
   abbrev a : ℕ

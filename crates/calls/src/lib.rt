@@ -7,12 +7,14 @@ ghost use mathlib.Core.Path.{_≡_};
 ghost use mathlib.Core.Bool.{true};
 ghost use mathlib.Core.List.{List};
 ghost use Prim.Native.Nat.{ℕ, _+_, _≤_, _<_};
-ghost use lib.ListN.{length};
+ghost use lib.ListN.{length, take};
 ghost use Rattle.ranges.specs.Range.{line, carve};
-ghost use Rattle.table.specs.Table.{Table, rangedOf};
+ghost use Rattle.table.specs.Table.{rangedOf};
+ghost use Rattle.places.specs.Places.{usedCount};
 ghost use Rattle.store.specs.Abs.{used, bookOf};
-ghost use Rattle.store.specs.Sound.{sound?};
+ghost use Rattle.store.specs.Sound.{sound?, Sound};
 ghost use Rattle.store.specs.Empty.{Blank};
+ghost use Rattle.sheet.specs.Sheet.{storeOf};
 ghost use Rattle.calls.specs.Drop.{Dropped};
 ghost use Rattle.book.specs.Book.{newObject, dropObject, lookUp, counts, create, done, state, numbers};
 ghost use Rattle.look.specs.declared.State.the-variants.{Absent};
@@ -28,7 +30,10 @@ pub struct Reply {
 pub fn new_object(s: Store, object: u32) -> Reply
     ensures { λ r. ⌜ Did (newObject object) s (r .number) done (r .store) ⌝ }
 {
-    let k = refuse::new_object(s, object);
+    let mut sheet = [0u64; 2579];
+    let mut holders = [0u32; 2048];
+    let mut links = [0u32; 2048];
+    let k = enter::new_object(s, &mut sheet, &mut holders, &mut links, object);
     if 0 < k {
         return Reply {
             number: k,
@@ -60,7 +65,10 @@ pub struct Looked {
 pub fn look_up(s: Store, object: u32, page: PageNumber) -> Looked
     ensures { λ r. ⌜ (Did (lookUp object (page .0)) s (r .number) (state (stateIs (r .state))) s) × (0 < r .number → r .state ≡ Absent) ⌝ }
 {
-    let k = refuse::look_up(s, object, page);
+    let mut sheet = [0u64; 2579];
+    let mut holders = [0u32; 2048];
+    let mut links = [0u32; 2048];
+    let k = enter::look_up(s, &mut sheet, &mut holders, &mut links, object, page);
     if 0 < k {
         return Looked {
             number: k,
@@ -68,7 +76,7 @@ pub fn look_up(s: Store, object: u32, page: PageNumber) -> Looked
         };
     }
     let g = table::line_of(object, page);
-    let t = look::state_of(s, g);
+    let t = seek::state_of(&sheet, &links, g);
     Looked {
         number: 0,
         state: t,
@@ -82,10 +90,32 @@ pub struct Numbers {
     pub ranges: usize,
 }
 
+// How many of the first frames are in use.
+fn used_count(sheet: &[u64; 2579], frames: usize) -> u32
+    requires { ⌜ frames ≤ 1024 ⌝ }
+    ensures { λ r. ⌜ r ≡ usedCount (take frames (storeOf (now (sheet .entry)) .places)) ⌝ }
+{
+    let mut n: u32 = 0;
+    let mut f: usize = 0;
+    while f < frames {
+        let p = sheet::place(sheet, f);
+        if 0 < p.backing {
+            n += 1;
+            f += 1;
+            continue;
+        }
+        f += 1;
+    }
+    n
+}
+
 pub fn counts(s: Store) -> Numbers
     ensures { λ r. ⌜ (Did counts s (r .number) (numbers (r .frames) (r .ranges)) s) × (0 < r .number → (r .frames ≡ 0) × (r .ranges ≡ 0)) ⌝ }
 {
-    let k = refuse::counts(s);
+    let mut sheet = [0u64; 2579];
+    let mut holders = [0u32; 2048];
+    let mut links = [0u32; 2048];
+    let k = enter::counts(s, &mut sheet, &mut holders, &mut links);
     if 0 < k {
         return Numbers {
             number: k,
@@ -93,8 +123,7 @@ pub fn counts(s: Store) -> Numbers
             ranges: 0,
         };
     }
-    let places = s.places;
-    let n = places::used_count(places, s.frames);
+    let n = used_count(&sheet, s.frames);
     Numbers {
         number: 0,
         frames: n,
@@ -143,40 +172,34 @@ pub fn create(frames: usize) -> Reply
     }
 }
 
-// A sound store without an object's ranges and the frames that stand in no window then.
-fn without_object(s: Store, object: u32) -> Store
-    requires { ⌜ (Table (s .ranges) (s .count)) × (s .frames ≤ 1024) × (object < 32) × (length (carve (line object 0) (line object 0 + 262144) (rangedOf (used s))) ≤ 512) ⌝ }
-    ensures { λ r. ⌜ Dropped s object r ⌝ }
+// The store that is left of a sheet without an object's ranges and the frames that stand in no window then.
+fn without_object(sheet: &mut [u64; 2579], object: u32) -> Store
+    requires { ⌜ (length (now sheet) ≡ 2579) × (Sound (storeOf (now sheet))) × (object < 32) × (length (carve (line object 0) (line object 0 + 262144) (rangedOf (used (storeOf (now sheet))))) ≤ 512) ⌝ }
+    ensures { λ r. ⌜ Dropped (storeOf (now (sheet .entry))) object r ⌝ }
 {
-    let ranges = s.ranges;
     let a = table::line_of(object, PageNumber(0));
-    let t = edit::cut_range(ranges, s.count, a, a + PageNumber::COUNT);
-    let rest = t.ranges;
-    let old = s.places;
-    let places = trim::trimmed(old, s.frames, rest, t.count);
-    let free = places::free_map(places, s.frames);
-    Store {
-        frames: s.frames,
-        live: s.live & !(1u32 << object),
-        count: t.count,
-        ranges: rest,
-        places,
-        free,
-    }
+    rows::cut_range(sheet, a, a + PageNumber::COUNT);
+    tidy::trim(sheet);
+    let live = sheet::live(sheet);
+    sheet::set_live(sheet, live & !(1u32 << object));
+    closing::closed(sheet)
 }
 
 // "A drop takes the ranges too."
 pub fn drop_object(s: Store, object: u32) -> Reply
     ensures { λ r. ⌜ Did (dropObject object) s (r .number) done (r .store) ⌝ }
 {
-    let k = refuse::drop_object(s, object);
+    let mut sheet = [0u64; 2579];
+    let mut holders = [0u32; 2048];
+    let mut links = [0u32; 2048];
+    let k = enter::drop_object(s, &mut sheet, &mut holders, &mut links, object);
     if 0 < k {
         return Reply {
             number: k,
             store: s,
         };
     }
-    let t = without_object(s, object);
+    let t = without_object(&mut sheet, object);
     Reply {
         number: 0,
         store: t,

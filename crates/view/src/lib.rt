@@ -15,12 +15,15 @@ ghost use Rattle.view.specs.View.{frameShown, partOf, beginOf, frameNumb
 fn frame_shown(s: Store, pool: usize, object: u32, page: PageNumber) -> Frame
     ensures { λ r. ⌜ ((x : List ℕ) → length x ≡ pool → frameNumber r ≡ frameShown s x object (page .0)) × Inside pool r ⌝ }
 {
-    let k = refuse::show(s, pool, object, page);
+    let mut sheet = [0u64; 2579];
+    let mut holders = [0u32; 2048];
+    let mut links = [0u32; 2048];
+    let k = enter::show(s, &mut sheet, &mut holders, &mut links, pool, object, page);
     if 0 < k {
         return Frame::Nothing;
     }
     let g = table::line_of(object, page);
-    match look::locate(s, g) {
+    match seek::locate(&sheet, &links, g) {
         PageAt::Absent => Frame::Nothing,
         PageAt::Present(l) => Frame::At(l.frame),
     }

@@ -1,13 +1,16 @@
-use mathlib.Core.Path.{_≡_, refl, sym, _∙_}
+-- `calls::drop_object` meets its contract.
+use mathlib.Core.Path.{_≡_, refl, sym, subst, _∙_}
 use mathlib.Core.List.{List}
-use Prim.Native.Nat.{ℕ}
+use Prim.Native.Nat.{ℕ, _+_, _≤_}
+use lib.ListN.{length}
+use Rattle.ranges.specs.Range.{line, carve}
 use Rattle.book.specs.Book.{dropObject, done}
-use Rattle.store.specs.Sound.{Sized}
-use Rattle.store.specs.Good.{sound-table}
+use Rattle.table.specs.Table.{rangedOf}
+use Rattle.store.specs.declared.Store.{Store}
+use Rattle.store.specs.Abs.{used}
 use Rattle.refuse.specs.Refuse.{refusal}
 use Rattle.calls.specs.Calls.{did-refused}
-use Rattle.calls.specs.Kept.{was-sound}
-use Rattle.calls.specs.Drop.{drop-name, drop-room, drop-done}
+use Rattle.calls.specs.Drop.{Dropped, drop-name, drop-room, drop-done}
 use native.Mathlib.Omega.{arith}
 use borrow.Author.Needs.{needs}
 use Rattle.calls.proofs.drop_object.Statement.{statement}
@@ -18,24 +21,30 @@ drop-object-requires c κs = search needs
 
 returns : tie.Need-returns
 returns c =
-    let a = c .before .before .args in
-    did-refused (dropObject (a .object)) (a .s) done (c .before .drop-object .result) (c .if1 .taken) (c .before .drop-object .ensures .0) (λ j. refl)
+    let a = c .before .before .before .before .before .args in
+    let q = c .before .drop-object in
+    did-refused (dropObject (a .object)) (a .s) done (q .result) (c .if1 .taken) (q .ensures .0) (λ j. refl)
 
 without-object-requires : tie.Need-without-object-requires
 without-object-requires c κs =
-    let a = c .before .before .args in
-    let k : c .before .drop-object .result ≡ 0 = omega (arith, c .if1 .left) in
-    let r : (x : List ℕ) → 0 ≡ refusal (a .s) x (dropObject (a .object)) = λ x. sym k ∙ c .before .drop-object .ensures .0 x in
-    let Z : Sized (a .s) = c .before .drop-object .ensures .1 in
-    let S = was-sound (dropObject (a .object)) (a .s) r in
-    (sound-table (a .s) Z S, S .few-frames, drop-name (a .s) (a .object) Z r, drop-room (a .s) (a .object) Z r)
+    let a = c .before .before .before .before .before .before .args in
+    let q = c .before .before .drop-object in
+    let k : q .result ≡ 0 = omega (arith, c .before .if1 .left) in
+    let r : (x : List ℕ) → 0 ≡ refusal (a .s) x (dropObject (a .object)) = λ x. sym k ∙ q .ensures .0 x in
+    let E = q .ensures .2 k in
+    let m = drop-room (a .s) (a .object) (q .ensures .1) r in
+    let room = subst (λ (t : Store). length (carve (line (a .object) 0) (line (a .object) 0 + 262144) (rangedOf (used t))) ≤ 512) (sym (E .store)) m in
+    (E .long, E .sound, drop-name (a .s) (a .object) (q .ensures .1) r, room)
 
 returns-2 : tie.Need-returns-2
 returns-2 c =
-    let a = c .before .before .before .args in
-    let k : c .before .before .drop-object .result ≡ 0 = omega (arith, c .before .if1 .left) in
-    let r : (x : List ℕ) → 0 ≡ refusal (a .s) x (dropObject (a .object)) = λ x. sym k ∙ c .before .before .drop-object .ensures .0 x in
-    drop-done (a .s) (a .object) (c .before .before .drop-object .ensures .1) r (c .without-object .result) (c .without-object .ensures)
+    let a = c .before .before .before .before .before .before .before .args in
+    let q = c .before .before .before .drop-object in
+    let k : q .result ≡ 0 = omega (arith, c .before .before .if1 .left) in
+    let r : (x : List ℕ) → 0 ≡ refusal (a .s) x (dropObject (a .object)) = λ x. sym k ∙ q .ensures .0 x in
+    let E = q .ensures .2 k in
+    let D = subst (λ (t : Store). Dropped t (a .object) (c .without-object .result)) (E .store) (c .without-object .ensures) in
+    drop-done (a .s) (a .object) (q .ensures .1) r (c .without-object .result) D
 
 pub drop-object-spec : {M : Type 1} → statement M
 drop-object-spec =

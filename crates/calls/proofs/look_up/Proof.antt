@@ -1,13 +1,16 @@
-use mathlib.Core.Path.{_≡_, refl, sym, _∙_}
+-- `calls::look_up` meets its contract.
+use mathlib.Core.Path.{_≡_, refl, ap₂, sym, _∙_}
 use mathlib.Core.List.{List}
 use Prim.Native.Nat.{ℕ}
 use Rattle.book.specs.Book.{lookUp, state}
-use Rattle.refuse.specs.Refuse.{refusal}
-use Rattle.calls.specs.Calls.{did-refused}
-use Rattle.calls.specs.Kept.{was-sound}
-use Rattle.calls.specs.Each.{look-done, look-page}
 use Rattle.book.specs.Need.{absent}
-use Rattle.store.specs.Good.{sound-table}
+use Rattle.ranges.specs.Range.{line}
+use Rattle.store.specs.declared.Store.{Store}
+use Rattle.look.specs.Look.{located, seen}
+use Rattle.refuse.specs.Refuse.{refusal}
+use Rattle.enter.specs.Enter.{entered-charted}
+use Rattle.calls.specs.Calls.{did-refused}
+use Rattle.calls.specs.Each.{look-done, look-page}
 use native.Mathlib.Omega.{arith}
 use borrow.Author.Needs.{needs}
 use Rattle.calls.proofs.look_up.Statement.{statement}
@@ -18,31 +21,35 @@ look-up-requires c κs = search needs
 
 returns : tie.Need-returns
 returns c =
-    let a = c .before .before .args in
-    (did-refused (lookUp (a .object) (a .page .0)) (a .s) (state absent) (c .before .look-up .result) (c .if1 .taken) (c .before .look-up .ensures .0) (λ j. refl), λ _. refl)
+    let a = c .before .before .before .before .before .args in
+    let q = c .before .look-up in
+    (did-refused (lookUp (a .object) (a .page .0)) (a .s) (state absent) (q .result) (c .if1 .taken) (q .ensures .0) (λ j. refl), λ _. refl)
 
 line-of-requires : tie.Need-line-of-requires
 line-of-requires c κs =
-    let a = c .before .before .args in
-    let k : c .before .look-up .result ≡ 0 = omega (arith, c .if1 .left) in
-    let r : (x : List ℕ) → 0 ≡ refusal (a .s) x (lookUp (a .object) (a .page .0)) = λ x. sym k ∙ c .before .look-up .ensures .0 x in
+    let a = c .before .before .before .before .before .args in
+    let q = c .before .look-up in
+    let k : q .result ≡ 0 = omega (arith, c .if1 .left) in
+    let r : (x : List ℕ) → 0 ≡ refusal (a .s) x (lookUp (a .object) (a .page .0)) = λ x. sym k ∙ q .ensures .0 x in
     omega (arith, look-page (a .s) (a .object) (a .page .0) r)
 
 state-of-requires : tie.Need-state-of-requires
 state-of-requires c κs =
-    let a = c .before .before .before .args in
-    let k : c .before .before .look-up .result ≡ 0 = omega (arith, c .before .if1 .left) in
-    let r : (x : List ℕ) → 0 ≡ refusal (a .s) x (lookUp (a .object) (a .page .0)) = λ x. sym k ∙ c .before .before .look-up .ensures .0 x in
-    let S = was-sound (lookUp (a .object) (a .page .0)) (a .s) r in
-    (sound-table (a .s) (c .before .before .look-up .ensures .1) S, S .few-frames, omega (arith, c .line-of .ensures, look-page (a .s) (a .object) (a .page .0) r))
+    let a = c .before .before .before .before .before .before .before .before .args in
+    let q = c .before .before .before .before .look-up in
+    let k : q .result ≡ 0 = omega (arith, c .before .before .before .if1 .left) in
+    let r : (x : List ℕ) → 0 ≡ refusal (a .s) x (lookUp (a .object) (a .page .0)) = λ x. sym k ∙ q .ensures .0 x in
+    (entered-charted (a .s) _ _ (q .ensures .2 k), omega (arith, c .before .before .line-of .ensures, look-page (a .s) (a .object) (a .page .0) r))
 
 returns-2 : tie.Need-returns-2
 returns-2 c =
-    let a = c .before .before .before .before .args in
-    let k : c .before .before .before .look-up .result ≡ 0 = omega (arith, c .before .before .if1 .left) in
-    let r : (x : List ℕ) → 0 ≡ refusal (a .s) x (lookUp (a .object) (a .page .0)) = λ x. sym k ∙ c .before .before .before .look-up .ensures .0 x in
-    let e = c .state-of .ensures in
-    (look-done (a .s) (c .before .before .before .look-up .ensures .1) (a .object) (a .page .0) r (c .state-of .result) (rw (c .before .line-of .ensures) at e), λ l. absurd (omega arith))
+    let a = c .before .before .before .before .before .before .before .before .before .args in
+    let q = c .before .before .before .before .before .look-up in
+    let k : q .result ≡ 0 = omega (arith, c .before .before .before .before .if1 .left) in
+    let r : (x : List ℕ) → 0 ≡ refusal (a .s) x (lookUp (a .object) (a .page .0)) = λ x. sym k ∙ q .ensures .0 x in
+    let e : c .state-of .result ≡ seen (a .s) (located (a .s) (line (a .object) (a .page .0))) =
+    c .state-of .ensures ∙ ap₂ (λ (t : Store) (g : ℕ). seen t (located t g)) (q .ensures .2 k .store) (c .before .before .before .line-of .ensures) in
+    (look-done (a .s) (q .ensures .1) (a .object) (a .page .0) r (c .state-of .result) e, λ l. absurd (omega arith))
 
 pub look-up-spec : {M : Type 1} → statement M
 look-up-spec =

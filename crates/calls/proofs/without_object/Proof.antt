@@ -1,5 +1,14 @@
-use mathlib.Core.Path.{_≡_, refl}
+-- `calls::without_object` meets its contract.
+use mathlib.Core.Path.{_≡_, ap, subst, _∙_}
+use Prim.Native.Nat.{ℕ, _+_, _-_, _*_, _%_, _^_}
+use lib.Bits.{bitAnd}
 use Rattle.ranges.specs.Range.{line}
+use Rattle.store.specs.declared.Store.{Store}
+use Rattle.store.specs.Good.{sound-table}
+use Rattle.sheet.specs.Sheet.{storeOf}
+use Rattle.sheet.specs.Edits.{storeOf-sized}
+use Rattle.rows.specs.Edit.{CutIs}
+use Rattle.calls.specs.Drop.{dropped}
 use native.Mathlib.Omega.{arith}
 use borrow.Author.Needs.{needs}
 use Rattle.calls.proofs.without_object.Statement.{statement}
@@ -13,31 +22,42 @@ add-cut-range c = search needs
 
 cut-range-requires : tie.Need-cut-range-requires
 cut-range-requires c κs =
+    let a = c .before .before .args in
     let P = c .before .before .pre in
-    let e : c .line-of .result ≡ line (c .before .before .args .object) 0 = c .line-of .ensures in
-    (P .0, omega arith, rw e (P .3))
+    let e : c .before .line-of .result ≡ line (a .object) 0 = c .before .line-of .ensures in
+    ((P .0, sound-table (storeOf (a .sheet .now)) (storeOf-sized (a .sheet .now)) (P .1), P .1 .rest-ranges), (omega arith, rw e (P .3)))
 
-trimmed-requires : tie.Need-trimmed-requires
-trimmed-requires c κs = search needs
+trim-requires : tie.Need-trim-requires
+trim-requires c κs =
+    let C = c .before .cut-range .ensures in
+    let f = ap (λ (q : Store). q .frames) (C .0 .same) in
+    let few = c .before .before .before .before .pre .1 .few-frames in
+    (C .1, omega (arith, f, few), C .0 .table .few)
 
-free-map-requires : tie.Need-free-map-requires
-free-map-requires c κs = search needs
+live-requires : tie.Need-live-requires
+live-requires c κs = search needs
 
-shl-t12 : tie.Need-shl-t12
-shl-t12 c = search needs
+shl-set-live : tie.Need-shl-set-live
+shl-set-live c = search needs
+
+set-live-requires : tie.Need-set-live-requires
+set-live-requires c κs = search needs
+
+closed-requires : tie.Need-closed-requires
+closed-requires c κs =
+    let f = ap (λ (q : Store). q .frames) (c .before .set-live .ensures .0) ∙ ap (λ (q : Store). q .frames) (c .before .before .before .before .before .trim .ensures .0) ∙ ap (λ (q : Store). q .frames) (c .before .before .before .before .before .before .before .cut-range .ensures .0 .same) in
+    let few = c .before .before .before .before .before .before .before .before .before .before .pre .1 .few-frames in
+    omega (arith, f, few)
 
 returns : tie.Need-returns
 returns c =
-    let e : c .before .before .before .before .before .before .line-of .result ≡ line (c .before .before .before .before .before .before .before .before .args .object) 0 = c .before .before .before .before .before .before .line-of .ensures in
-    let t = c .before .before .before .before .before .cut-range .ensures in
-    record {
-      frames = refl;
-      live = refl;
-      table = rw e at t .0;
-      few = t .1 .few;
-      places = c .before .before .trimmed .ensures;
-      bits = c .before .free-map .ensures;
-    }
+    let a = c .before .before .before .before .before .before .before .before .before .before .before .args in
+    let C = c .before .before .before .before .before .before .before .before .cut-range .ensures .0 in
+    let n : ℕ = bitAnd (c .before .before .before .before .live .result) (2 ^ 32 - 1 - 1 * 2 ^ a .object % 2 ^ 32) in
+    dropped (storeOf (a .sheet .now)) _ _ _ (c .closed .result) (a .object) n
+    (subst (λ (k : ℕ). CutIs k (k + 262144) (storeOf (a .sheet .now)) (storeOf (c .before .before .before .before .before .before .before .before .cut-range .last .0))) (c .before .before .before .before .before .before .before .before .before .before .line-of .ensures) C)
+    (c .before .before .before .before .before .before .trim .ensures .0) (c .before .before .set-live .ensures .0) (c .closed .ensures .0)
+    (ap (λ (k : ℕ). bitAnd k (2 ^ 32 - 1 - 1 * 2 ^ a .object % 2 ^ 32)) (c .before .before .before .before .live .ensures)) (c .closed .ensures .1)
 
 pub without-object-spec : {M : Type 1} → statement M
 without-object-spec =
@@ -46,7 +66,9 @@ without-object-spec =
     line-of-requires
     add-cut-range
     cut-range-requires
-    trimmed-requires
-    free-map-requires
-    shl-t12
+    trim-requires
+    live-requires
+    shl-set-live
+    set-live-requires
+    closed-requires
     returns)
