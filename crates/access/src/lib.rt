@@ -6,27 +6,7 @@ ghost use mathlib.Core.Path.{_≡_};
 ghost use Prim.Native.Nat.{_≤_, _<_};
 ghost use lib.ListN.{length};
 ghost use Rattle.book.specs.Book.{add, read, write, added, bytes, done};
-ghost use Rattle.places.specs.Places.{FreeMap};
 ghost use Rattle.calls.specs.With.{DidWith};
-ghost use Rattle.pages.specs.Enter.{closed};
-
-// "released frames are free when the call ends": the free map is made anew.
-pub fn closed(t: Store) -> Store
-    requires { ⌜ t .frames ≤ 1024 ⌝ }
-    ensures { λ r. ⌜ (r ≡ closed t (r .free)) × (FreeMap (t .frames) (t .places) (r .free)) ⌝ }
-{
-    let ranges = t.ranges;
-    let places = t.places;
-    let free = places::free_map(places, t.frames);
-    Store {
-        frames: t.frames,
-        live: t.live,
-        count: t.count,
-        ranges,
-        places,
-        free,
-    }
-}
 
 // The frame of an added page; 0 where the call is refused.
 pub struct Added {
@@ -95,23 +75,35 @@ pub fn read(s: Store, pool: &[u8], object: u32, offset: usize, buf: &mut [u8]) -
 pub fn write(s: Store, pool: &mut [u8], object: u32, offset: usize, src: &[u8]) -> Reply
     ensures { λ r. ⌜ DidWith (write object offset (now (src .entry))) s (now (pool .entry)) (r .number) done (r .store) (now (pool .exit)) ⌝ }
 {
+    let mut sheet = [0u64; 2579];
+    let mut holders = [0u32; 2048];
+    let mut links = [0u32; 2048];
     let n = src.len();
-    let k = refuse::write(s, pool.len(), object, offset, n);
+    let k = enter::write(
+        s,
+        &mut sheet,
+        &mut holders,
+        &mut links,
+        pool.len(),
+        object,
+        offset,
+        n,
+    );
     if 0 < k {
         return Reply {
             number: k,
             store: s,
         };
     }
-    let done = writes::overwrite_pages(s, pool, object, offset, src);
+    let done = fetch::overwrite_pages(&sheet, &links, pool, object, offset, src);
     if done == n {
         return Reply {
             number: 0,
             store: s,
         };
     }
-    let w = writes::write_pages(s, pool, object, offset + done, &src[done..]);
-    let t = closed(w);
+    writing::write_pages(&mut sheet, pool, object, offset + done, &src[done..]);
+    let t = closing::closed(&sheet);
     Reply {
         number: 0,
         store: t,

@@ -57,43 +57,44 @@ pub fn zero_ranges(s: Store, pool: &mut [u8], object: u32, offset: usize, n: usi
 
 // "A copy at equal places copies its partly touched pages as bytes and shares whole pages."
 fn copy_equal(
-    s: Store,
+    sheet: &mut [u64; 2579],
     pool: &mut [u8],
     source: u32,
     from: usize,
     object: u32,
     to: usize,
     n: usize,
-) -> Store
-    requires { ⌜ EqualRoom s (now pool) source from object to n ⌝ }
-    ensures { λ t. ⌜ Worked s (now (pool .entry)) (copyEqual source from object to n (workOf s (now (pool .entry)))) t (now (pool .exit)) ⌝ }
+)
+    requires { ⌜ (length (now sheet) ≡ 2579) × (EqualRoom (storeOf (now sheet)) (now pool) source from object to n) ⌝ }
+    ensures { λ _. ⌜ (Worked (storeOf (now (sheet .entry))) (now (pool .entry)) (copyEqual source from object to n (workOf (storeOf (now (sheet .entry))) (now (pool .entry)))) (storeOf (now (sheet .exit))) (now (pool .exit))) × (length (now (sheet .exit)) ≡ 2579) ⌝ }
 {
     let p = PageNumber::span_of(from, n);
-    let a = moves::copy_bytes(s, pool, source, from, object, to, p.head);
+    writing::copy_bytes(sheet, pool, source, from, object, to, p.head);
     let first = PageNumber::from_offset(from + p.head);
     let place = PageNumber::from_offset(to + p.head);
-    let b = shares::copy_range_to_object_tree(a, source, first, object, place, p.whole);
+    spread::copy_range_to_object_tree(sheet, source, first, object, place, p.whole);
     let done = p.head + p.whole * PageNumber::PAGE_SIZE;
-    moves::copy_bytes(b, pool, source, from + done, object, to + done, p.tail)
+    writing::copy_bytes(sheet, pool, source, from + done, object, to + done, p.tail);
 }
 
 // "At unequal places all is bytes, absent source bytes being zeros."
 fn copy_span(
-    s: Store,
+    sheet: &mut [u64; 2579],
     pool: &mut [u8],
     source: u32,
     from: usize,
     object: u32,
     to: usize,
     n: usize,
-) -> Store
-    requires { ⌜ CopyRoom s (now pool) source from object to n ⌝ }
-    ensures { λ t. ⌜ Worked s (now (pool .entry)) (copying source from object to n (workOf s (now (pool .entry)))) t (now (pool .exit)) ⌝ }
+)
+    requires { ⌜ (length (now sheet) ≡ 2579) × (CopyRoom (storeOf (now sheet)) (now pool) source from object to n) ⌝ }
+    ensures { λ _. ⌜ (Worked (storeOf (now (sheet .entry))) (now (pool .entry)) (copying source from object to n (workOf (storeOf (now (sheet .entry))) (now (pool .entry)))) (storeOf (now (sheet .exit))) (now (pool .exit))) × (length (now (sheet .exit)) ≡ 2579) ⌝ }
 {
     if PageNumber::place(from) == PageNumber::place(to) {
-        return copy_equal(s, pool, source, from, object, to, n);
+        copy_equal(sheet, pool, source, from, object, to, n);
+        return;
     }
-    moves::copy_bytes(s, pool, source, from, object, to, n)
+    writing::copy_bytes(sheet, pool, source, from, object, to, n);
 }
 
 pub fn copy_ranges(
@@ -107,15 +108,29 @@ pub fn copy_ranges(
 ) -> Reply
     ensures { λ r. ⌜ DidWith (copy source from object to n) s (now (pool .entry)) (r .number) done (r .store) (now (pool .exit)) ⌝ }
 {
-    let k = refuse::copy(s, pool.len(), source, from, object, to, n);
+    let mut sheet = [0u64; 2579];
+    let mut holders = [0u32; 2048];
+    let mut links = [0u32; 2048];
+    let k = enter::copy(
+        s,
+        &mut sheet,
+        &mut holders,
+        &mut links,
+        pool.len(),
+        source,
+        from,
+        object,
+        to,
+        n,
+    );
     if 0 < k {
         return Reply {
             number: k,
             store: s,
         };
     }
-    let w = copy_span(s, pool, source, from, object, to, n);
-    let t = access::closed(w);
+    copy_span(&mut sheet, pool, source, from, object, to, n);
+    let t = closing::closed(&sheet);
     Reply {
         number: 0,
         store: t,

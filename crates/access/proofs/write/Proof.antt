@@ -5,6 +5,7 @@ use lib.ListN.{length}
 use Rattle.refuse.specs.Refuse.{refusal}
 use Rattle.book.specs.Book.{write, done}
 use Rattle.calls.specs.With.{with-refused}
+use Rattle.enter.specs.Enter.{entered-charted}
 use Rattle.writes.specs.Going.{going-end, rest-room, rest-written}
 use Rattle.access.specs.Enters.{write-enters}
 use Rattle.access.specs.Finish.{write-done, write-stays, handed}
@@ -18,36 +19,44 @@ write-requires c κs = search needs
 
 returns : tie.Need-returns
 returns c =
-    let a = c .before .before .before .before .args in
+    let a = c .before .before .before .before .before .before .before .args in
     with-refused (write (a .object) (a .offset) (a .src .now)) (a .s) (a .pool .now) done (c .before .write .result) (c .if1 .taken) (c .before .write .ensures .0 (a .pool .now) (a .src .now) refl refl) (λ j. refl)
 
 overwrite-pages-requires : tie.Need-overwrite-pages-requires
 overwrite-pages-requires c κs =
-    let a = c .before .before .before .before .before .args in
-    let k : c .before .before .write .result ≡ 0 = omega (arith, c .before .if1 .left) in
-    let r : 0 ≡ refusal (a .s) (a .pool .now) (write (a .object) (a .offset) (a .src .now)) = sym k ∙ c .before .before .write .ensures .0 (a .pool .now) (a .src .now) refl refl in
-    write-enters (a .s) (a .pool .now) (c .before .before .write .ensures .1) (a .object) (a .offset) (a .src .now) r
+    let a = c .before .before .before .before .before .before .before .before .before .before .args in
+    let e = c .before .before .before .before .write .ensures in
+    let k : c .before .before .before .before .write .result ≡ 0 = omega (arith, c .before .before .before .if1 .left) in
+    let E = e .2 k in
+    let r : 0 ≡ refusal (a .s) (a .pool .now) (write (a .object) (a .offset) (a .src .now)) = sym k ∙ e .0 (a .pool .now) (a .src .now) refl refl in
+    let R = write-enters (a .s) (a .pool .now) (e .1) (a .object) (a .offset) (a .src .now) r in
+    (entered-charted (a .s) _ _ E, rw (E .store) R)
 
 same-length : tie.Need-same-length
 same-length c = search needs
 
 returns-2 : tie.Need-returns-2
 returns-2 c =
-    let a = c .before .before .before .before .before .before .before .before .before .args in
-    let k : c .before .before .before .before .before .before .write .result ≡ 0 = omega (arith, c .before .before .before .before .before .if1 .left) in
-    let r : 0 ≡ refusal (a .s) (a .pool .now) (write (a .object) (a .offset) (a .src .now)) = sym k ∙ c .before .before .before .before .before .before .write .ensures .0 (a .pool .now) (a .src .now) refl refl in
-    let e : c .before .before .before .overwrite-pages .result ≡ length (a .src .now) = search needs in
-    write-stays (a .s) (a .pool .now) (c .before .before .before .before .before .before .write .ensures .1) (a .object) (a .offset) (a .src .now) r _
-    (going-end (a .s) (a .pool .now) (a .object) (a .offset) (a .src .now) (a .s) _ (rw e at (c .before .before .before .overwrite-pages .ensures)))
+    let a = c .before .before .before .before .before .before .before .before .before .before .before .before .before .before .args in
+    let e = c .before .before .before .before .before .before .before .before .write .ensures in
+    let k : c .before .before .before .before .before .before .before .before .write .result ≡ 0 = omega (arith, c .before .before .before .before .before .before .before .if1 .left) in
+    let E = e .2 k in
+    let r : 0 ≡ refusal (a .s) (a .pool .now) (write (a .object) (a .offset) (a .src .now)) = sym k ∙ e .0 (a .pool .now) (a .src .now) refl refl in
+    let R = write-enters (a .s) (a .pool .now) (e .1) (a .object) (a .offset) (a .src .now) r in
+    let n : c .before .before .before .overwrite-pages .result ≡ length (a .src .now) = search needs in
+    let G = rw (E .store) at (c .before .before .before .overwrite-pages .ensures) in
+    write-stays (a .s) (a .pool .now) (e .1) (a .object) (a .offset) (a .src .now) r _ (going-end (a .s) (a .pool .now) (a .object) (a .offset) (a .src .now) (a .s) _ (rw n at G))
 
 add-write-pages : tie.Need-add-write-pages
 add-write-pages c =
-    let a = c .before .before .before .before .before .before .before .before .before .before .args in
-    let k : c .before .before .before .before .before .before .before .write .result ≡ 0 = omega (arith, c .before .before .before .before .before .before .if1 .left) in
-    let r : 0 ≡ refusal (a .s) (a .pool .now) (write (a .object) (a .offset) (a .src .now)) = sym k ∙ c .before .before .before .before .before .before .before .write .ensures .0 (a .pool .now) (a .src .now) refl refl in
-    let R = write-enters (a .s) (a .pool .now) (c .before .before .before .before .before .before .before .write .ensures .1) (a .object) (a .offset) (a .src .now) r in
-    let G = c .before .before .before .before .overwrite-pages .ensures in
-    let h : c .before .before .before .before .overwrite-pages .result < length (a .src .now) = search (needs, G .few) in
+    let a = c .before .before .before .before .before .before .before .before .before .before .before .before .before .before .before .before .args in
+    let e = c .before .before .before .before .before .before .before .before .before .before .write .ensures in
+    let k : c .before .before .before .before .before .before .before .before .before .before .write .result ≡ 0 = omega (arith, c .before .before .before .before .before .before .before .before .before .if1 .left) in
+    let E = e .2 k in
+    let r : 0 ≡ refusal (a .s) (a .pool .now) (write (a .object) (a .offset) (a .src .now)) = sym k ∙ e .0 (a .pool .now) (a .src .now) refl refl in
+    let R = write-enters (a .s) (a .pool .now) (e .1) (a .object) (a .offset) (a .src .now) r in
+    let G = rw (E .store) at (c .before .before .before .before .before .overwrite-pages .ensures) in
+    let h : c .before .before .before .before .before .overwrite-pages .result < length (a .src .now) = search (needs, G .few) in
     omega (arith, R .ends)
 
 sub-write-pages : tie.Need-sub-write-pages
@@ -61,13 +70,16 @@ part-write-pages-end c = search needs
 
 write-pages-requires : tie.Need-write-pages-requires
 write-pages-requires c κs =
-    let a = c .before .before .before .before .before .before .before .before .before .before .before .args in
-    let k : c .before .before .before .before .before .before .before .before .write .result ≡ 0 = omega (arith, c .before .before .before .before .before .before .before .if1 .left) in
-    let r : 0 ≡ refusal (a .s) (a .pool .now) (write (a .object) (a .offset) (a .src .now)) = sym k ∙ c .before .before .before .before .before .before .before .before .write .ensures .0 (a .pool .now) (a .src .now) refl refl in
-    let R = write-enters (a .s) (a .pool .now) (c .before .before .before .before .before .before .before .before .write .ensures .1) (a .object) (a .offset) (a .src .now) r in
-    let G = c .before .before .before .before .before .overwrite-pages .ensures in
-    let h : c .before .before .before .before .before .overwrite-pages .result < length (a .src .now) = search (needs, G .few) in
-    rest-room (a .s) (a .pool .now) (a .object) (a .offset) (a .src .now) (c .before .before .before .before .before .overwrite-pages .result) _ G h (R .ends)
+    let a = c .before .before .before .before .before .before .before .before .before .before .before .before .before .before .before .before .before .args in
+    let e = c .before .before .before .before .before .before .before .before .before .before .before .write .ensures in
+    let k : c .before .before .before .before .before .before .before .before .before .before .before .write .result ≡ 0 = omega (arith, c .before .before .before .before .before .before .before .before .before .before .if1 .left) in
+    let E = e .2 k in
+    let r : 0 ≡ refusal (a .s) (a .pool .now) (write (a .object) (a .offset) (a .src .now)) = sym k ∙ e .0 (a .pool .now) (a .src .now) refl refl in
+    let R = write-enters (a .s) (a .pool .now) (e .1) (a .object) (a .offset) (a .src .now) r in
+    let G = rw (E .store) at (c .before .before .before .before .before .before .overwrite-pages .ensures) in
+    let h : c .before .before .before .before .before .before .overwrite-pages .result < length (a .src .now) = search (needs, G .few) in
+    let q = rest-room (a .s) (a .pool .now) (a .object) (a .offset) (a .src .now) (c .before .before .before .before .before .before .overwrite-pages .result) _ G h (R .ends) in
+    (E .long, rw (E .store) q)
 
 closed-requires : tie.Need-closed-requires
 closed-requires c κs = search needs
@@ -77,16 +89,19 @@ same-length-2 c = search needs
 
 returns-3 : tie.Need-returns-3
 returns-3 c =
-    let a = c .before .before .before .before .before .before .before .before .before .before .before .before .before .before .before .args in
-    let k : c .before .before .before .before .before .before .before .before .before .before .before .before .write .result ≡ 0 = omega (arith, c .before .before .before .before .before .before .before .before .before .before .before .if1 .left) in
-    let r : 0 ≡ refusal (a .s) (a .pool .now) (write (a .object) (a .offset) (a .src .now)) = sym k ∙ c .before .before .before .before .before .before .before .before .before .before .before .before .write .ensures .0 (a .pool .now) (a .src .now) refl refl in
-    let R = write-enters (a .s) (a .pool .now) (c .before .before .before .before .before .before .before .before .before .before .before .before .write .ensures .1) (a .object) (a .offset) (a .src .now) r in
-    let G = c .before .before .before .before .before .before .before .before .before .overwrite-pages .ensures in
-    let h : c .before .before .before .before .before .before .before .before .before .overwrite-pages .result < length (a .src .now) = search (needs, G .few) in
+    let a = c .before .before .before .before .before .before .before .before .before .before .before .before .before .before .before .before .before .before .before .before .before .before .args in
+    let e = c .before .before .before .before .before .before .before .before .before .before .before .before .before .before .before .before .write .ensures in
+    let k : c .before .before .before .before .before .before .before .before .before .before .before .before .before .before .before .before .write .result ≡ 0 = omega (arith, c .before .before .before .before .before .before .before .before .before .before .before .before .before .before .before .if1 .left) in
+    let E = e .2 k in
+    let r : 0 ≡ refusal (a .s) (a .pool .now) (write (a .object) (a .offset) (a .src .now)) = sym k ∙ e .0 (a .pool .now) (a .src .now) refl refl in
+    let R = write-enters (a .s) (a .pool .now) (e .1) (a .object) (a .offset) (a .src .now) r in
+    let G = rw (E .store) at (c .before .before .before .before .before .before .before .before .before .before .before .overwrite-pages .ensures) in
+    let h : c .before .before .before .before .before .before .before .before .before .before .before .overwrite-pages .result < length (a .src .now) = search (needs, G .few) in
     let m = c .closed .ensures in
+    let W = rw (E .store) at (c .before .before .before .before .write-pages .ensures .0) in
     handed _ _ _ _ _ _ _ _ (m .0)
-    (write-done (a .s) (a .pool .now) (c .before .before .before .before .before .before .before .before .before .before .before .before .write .ensures .1) (a .object) (a .offset) (a .src .now) r _ _
-    (rest-written (a .s) (a .pool .now) (a .object) (a .offset) (a .src .now) (c .before .before .before .before .before .before .before .before .before .overwrite-pages .result) _ G h _ _ (c .before .before .before .write-pages .ensures)) _ (m .1))
+    (write-done (a .s) (a .pool .now) (e .1) (a .object) (a .offset) (a .src .now) r _ _
+    (rest-written (a .s) (a .pool .now) (a .object) (a .offset) (a .src .now) (c .before .before .before .before .before .before .before .before .before .before .before .overwrite-pages .result) _ G h _ _ W) _ (m .1))
 
 pub write-spec : {M : Type 1} → statement M
 write-spec =
