@@ -1,7 +1,7 @@
 -- `steps::add_page` meets its contract: the spot is the added page's, the frame the highest free one.
 use native.Mathlib.Omega.{arith}
 use borrow.Author.Needs.{needs}
-use mathlib.Core.Path.{_≡_, ap, sym, subst, _∙_}
+use mathlib.Core.Path.{sym, subst}
 use Prim.Native.Nat.{ℕ}
 use Rattle.pages.specs.declared.Spot.{Spot}
 use Rattle.pages.specs.Inside.{inside-table}

@@ -1,7 +1,7 @@
 -- `steps::clear_page` meets its contract: by whether there is anything to clear, and where the page is.
 use native.Mathlib.Omega.{arith}
 use borrow.Author.Needs.{needs}
-use mathlib.Core.Path.{_≡_, ap, sym, subst, _∙_}
+use mathlib.Core.Path.{_≡_, ap, sym, _∙_}
 use Prim.Native.Nat.{_/_}
 use Rattle.ranges.specs.Range.{line}
 use Rattle.look.specs.Look.{located}

@@ -1,7 +1,7 @@
 -- `steps::clear_present` meets its contract: zeros are put into the page's frame.
 use native.Mathlib.Omega.{arith}
 use borrow.Author.Needs.{needs}
-use mathlib.Core.Path.{_≡_, ap, sym, subst, _∙_}
+use mathlib.Core.Path.{_≡_}
 use Prim.Native.Nat.{_/_}
 use Rattle.pages.specs.Steps.{clear-wrote}
 use Rattle.sheet.specs.Sheet.{storeOf}

@@ -1,7 +1,7 @@
 -- `steps::copy_page` meets its contract: the page gets a range and a frame of its own, with a copy of its bytes.
 use native.Mathlib.Omega.{arith}
 use borrow.Author.Needs.{needs}
-use mathlib.Core.Path.{_≡_, ap, sym, subst, _∙_}
+use mathlib.Core.Path.{subst}
 use Prim.Native.Nat.{ℕ}
 use Rattle.pages.specs.declared.Spot.{Spot}
 use Rattle.pages.specs.Spot.{ownSpot}

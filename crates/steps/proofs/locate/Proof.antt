@@ -9,7 +9,6 @@ use Rattle.table.specs.Searching.{begun-small, reach-told, reach-last}
 use Rattle.store.specs.Abs.{used}
 use Rattle.store.specs.Tabled.{Covered, covered-at}
 use Rattle.look.specs.Look.{located, inRange}
-use native.Mathlib.Omega.{arith}
 use borrow.Author.Needs.{needs}
 use Rattle.sheet.specs.Sheet.{storeOf}
 use Rattle.steps.proofs.locate.Statement.{statement}

@@ -1,7 +1,6 @@
 -- `steps::make_writable` meets its contract: an absent page is added, a present one made private.
-use native.Mathlib.Omega.{arith}
 use borrow.Author.Needs.{needs}
-use mathlib.Core.Path.{_≡_, ap, sym, subst, _∙_}
+use mathlib.Core.Path.{_≡_, ap, sym, _∙_}
 use Rattle.ranges.specs.Range.{line}
 use Rattle.look.specs.Look.{located}
 use Rattle.look.specs.declared.PageAt.the-variants.{Absent, Present}

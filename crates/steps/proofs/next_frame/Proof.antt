@@ -1,14 +1,14 @@
 -- `steps::next_frame` meets its contract, as `frames::highest`. The loop's invariant: the words from `i` on are 0. The measure is `i`.
 use borrow.Author.Needs.{needs}
 use native.Mathlib.Omega.{arith}
-use mathlib.Core.Path.{_≡_, ap, sym, _∙_}
+use mathlib.Core.Path.{_≡_, ap}
 use mathlib.Core.List.{List, []}
 use Prim.Native.Nat.{ℕ, _-_, _<_, _≤_}
 use lib.ListN.{length, getD}
-use Rattle.frames.specs.Free.{Top, spareOf}
+use Rattle.frames.specs.Free.{spareOf}
 use Rattle.frames.specs.Spare.{highest-none}
 use Rattle.frames.proofs.Laws.{highest-word, highest-zero, zero-more}
-use Rattle.sheet.specs.Sheet.{storeOf, wordAt}
+use Rattle.sheet.specs.Sheet.{storeOf}
 use Rattle.steps.proofs.next_frame.Statement.{statement}
 use Rattle.steps.proofs.next_frame.Tie as tie
 

@@ -41,7 +41,6 @@ longer-spot-requires c κs =
 returns-2 : tie.Need-returns-2
 returns-2 c =
     let a = c .before .before .before .before .before .before .args in
-    let p = c .before .before .before .before .before .before .pre in
     let e : c .before .before .before .before .before .line-of .result ≡ line (a .object) (a .page .0) = c .before .before .before .before .before .line-of .ensures in
     let t : joins (a .object) (a .page .0) (rangesOf (used (storeOf (a .sheet .now)))) (rangeOf (a .r)) ≡ true = sym (c .before .before .can-join .ensures) ∙ c .before .if2 .taken in
     let h : upto (ranged (a .r)) ≤ line (a .object) (a .page .0) = omega (arith, c .before .before .before .before .end .ensures, c .before .before .before .if1 .left) in
@@ -53,8 +52,6 @@ own-spot-requires c κs = search needs
 returns-3 : tie.Need-returns-3
 returns-3 c =
     let a = c .before .before .before .before .before .before .args in
-    let p = c .before .before .before .before .before .before .pre in
-    let e : c .before .before .before .before .before .line-of .result ≡ line (a .object) (a .page .0) = c .before .before .before .before .before .line-of .ensures in
     let t : joins (a .object) (a .page .0) (rangesOf (used (storeOf (a .sheet .now)))) (rangeOf (a .r)) ≡ false = sym (c .before .before .can-join .ensures) ∙ c .before .if2 .left in
     let h : upto (ranged (a .r)) ≤ line (a .object) (a .page .0) = omega (arith, c .before .before .before .before .end .ensures, c .before .before .before .if1 .left) in
     rw (le-ltb (line (a .object) (a .page .0)) (upto (ranged (a .r))) h, t) (c .own-spot .ensures)

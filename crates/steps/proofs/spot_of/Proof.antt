@@ -1,11 +1,10 @@
 -- `steps::spot_of` meets its contract: by the last range that begins at or before the page.
-use mathlib.Core.Path.{_≡_, ap, sym, _∙_}
+use mathlib.Core.Path.{_≡_, ap, _∙_}
 use Prim.Native.Nat.{ℕ, suc, _+_, _-_}
-use lib.ListN.{getD}
 use Rattle.table.specs.declared.PageRange.{PageRange}
 use Rattle.ranges.specs.Range.{line}
 use Rattle.ranges.specs.Search.{startsBefore}
-use Rattle.table.specs.Table.{rangedOf, zeroRange}
+use Rattle.table.specs.Table.{rangedOf}
 use Rattle.store.specs.Abs.{used}
 use Rattle.pages.specs.Spot.{spotIn}
 use Rattle.pages.specs.Next.{last-range, spot-last, spot-none}

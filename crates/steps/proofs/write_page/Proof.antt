@@ -1,7 +1,7 @@
 -- `steps::write_page` meets its contract: the bytes are put into the page's frame.
 use native.Mathlib.Omega.{arith}
 use borrow.Author.Needs.{needs}
-use mathlib.Core.Path.{_≡_, ap, sym, subst, _∙_}
+use mathlib.Core.Path.{_≡_}
 use Prim.Native.Nat.{_/_}
 use lib.ListN.{drop, length-drop}
 use Rattle.pages.specs.Steps.{write-wrote}

@@ -1,7 +1,7 @@
 -- `writing::copy_bytes` meets its contract: the loop of a write, page after page, of what is read of the source.
 use borrow.Author.Needs.{needs}
 use native.Mathlib.Omega.{arith}
-use mathlib.Core.Path.{_≡_, ap, sym, subst, _∙_}
+use mathlib.Core.Path.{_≡_}
 use Prim.Native.Nat.{_-_, _<_}
 use lib.ListN.{length}
 use Rattle.moves.specs.Copying.{Copying, copying-start, copying-room, copying-turn, copying-end}

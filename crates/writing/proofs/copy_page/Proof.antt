@@ -1,7 +1,7 @@
 -- `writing::copy_page` meets its contract: the page is made writable, and bytes of the source are moved into its frame, which has no page of the source.
 use native.Mathlib.Omega.{arith}
 use borrow.Author.Needs.{needs}
-use mathlib.Core.Path.{_≡_, ap, sym, subst, _∙_}
+use mathlib.Core.Path.{_≡_}
 use Prim.Native.Nat.{_+_, _*_, _/_, _<_}
 use Rattle.pages.specs.Inside.{inside-table}
 use Rattle.pages.specs.Steps.{frame-inside}

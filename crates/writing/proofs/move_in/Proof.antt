@@ -1,7 +1,7 @@
 -- `writing::move_in` meets its contract: the part in the first page, then the rest in the next one, are what is read of the source.
 use native.Mathlib.Omega.{arith}
 use borrow.Author.Needs.{needs}
-use mathlib.Core.Path.{_≡_, ap, sym, subst, _∙_}
+use mathlib.Core.Path.{ap, _∙_}
 use Rattle.ranges.specs.Range.{line}
 use Rattle.moves.specs.Moving.{both-moved}
 use Rattle.sheet.specs.Sheet.{storeOf}

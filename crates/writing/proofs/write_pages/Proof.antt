@@ -1,7 +1,7 @@
 -- `writing::write_pages` meets its contract: the loop of a write, page after page.
 use borrow.Author.Needs.{needs}
 use native.Mathlib.Omega.{arith}
-use mathlib.Core.Path.{_≡_, ap, sym, subst, _∙_}
+use mathlib.Core.Path.{_≡_}
 use Prim.Native.Nat.{_+_, _-_, _<_}
 use lib.ListN.{length}
 use Rattle.laws.specs.Turn.{inPage}
