@@ -26,7 +26,7 @@ fn run(work: u8, s: Store, pool: &mut [u8], buf: &mut [u8], turns: usize) -> usi
         2 => works::pages_written(s, pool, buf, turns),
         3 => works::pages_read(s, pool, buf, turns),
         4 => works::shifted(s, pool, 1, n, turns),
-        _ => works::shifted(s, pool, 30, n, turns),
+        _ => works::shifted(s, pool, 30, 524288, turns),
     }
 }
 
@@ -135,7 +135,7 @@ fn whole(pool: &mut [u8], buf: &mut [u8], m: usize, clock: bool)
     measured(0, 4, t, pool, buf, clock);
 }
 
-// Copied to record 1, which is present; and without that to record 30, which has no page.
+// Copied to record 1, which is present; and without that 512 KiB to record 30, which has no page: each page added needs two slots, so 2 MiB is refused.
 fn halves(pool: &mut [u8], buf: &mut [u8], m: usize, clock: bool)
     requires { ⌜ (length (now buf) ≤ 4194304) × (0 < m) × (m ≤ 512) ⌝ }
 {

@@ -170,7 +170,7 @@ pub fn bulk(mut f: Fill) {
     f.rust.frames.close(a);
 }
 
-/// 2 MiB copied to unequal places: to present pages of record 1; with that dropped to absent ones of record 30.
+/// 2 MiB copied to unequal places, to present pages of record 1; with that dropped 512 KiB, to absent ones of record 30.
 pub fn shift(mut f: Fill) {
     let counts = f.rust.counts();
     let n = f.end * PAGE;
@@ -182,7 +182,7 @@ pub fn shift(mut f: Fill) {
     f.rust.objects.remove(&1);
     f.rust.frames.collect();
     let counts = f.rust.counts();
-    let fresh = |r: &Rust, a: &mut FrameAllocator| copy::copy_ranges(r.object(0), 100, r.object(30), 0, n, a);
+    let fresh = |r: &Rust, a: &mut FrameAllocator| copy::copy_ranges(r.object(0), 100, r.object(30), 0, 1 << 19, a);
     line("shift_new", counts, single(|| with_frames(&mut f.rust, fresh, emptied)));
 }
 
