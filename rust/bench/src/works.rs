@@ -123,8 +123,7 @@ pub fn with_room(f: &mut Fill) {
     let saved = rust.save();
     for (work, at, n) in [("zero_all", 0, 1 << 30), ("zero_page", PAGE, PAGE)] {
         let zeroed = single(|| {
-            let o = rust.object(0).clone();
-            let spent = took(|| copy::zero_ranges(&o, at, n));
+            let spent = took(|| copy::zero_ranges(rust.object(0), at, n));
             rust.restore(&saved);
             spent
         });
