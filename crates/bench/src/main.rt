@@ -156,11 +156,11 @@ fn full(s: Store, pool: &mut [u8], frames: usize, ranges: usize, own: usize) -> 
         }
         return fills::longer(s, pool, frames, own, 6);
     }
-    let t = fills::crowded(s, pool, frames, own);
     if frames < 1018 {
-        return t;
+        return fills::crowded(s, pool, frames, own);
     }
-    fills::longer(t, pool, frames, own, 5)
+    let t = fills::longer(s, pool, frames, own, 5);
+    fills::crowded(t, pool, frames, own)
 }
 
 // The works that need room, then the others on the store filled up.
