@@ -5,20 +5,6 @@ ghost use Prim.Native.Nat.{_≤_};
 ghost use lib.ListN.{drop, length, replicate, take};
 ghost use Rattle.chains.specs.Chains.{Chained};
 
-// The chains of the first n entries, by their keys: where each chain begins, at its last entry, and where each entry's chain goes on.
-pub fn chain(keys: &[usize; 1024], n: usize, heads: &mut [u32; 1024], next: &mut [u32; 1024])
-    requires { ⌜ (n ≤ 1024) × (now heads ≡ replicate 1024 0) × (length (now next) ≡ 1024) ⌝ }
-    ensures { λ _. ⌜ Chained (now (keys .entry)) n (now (heads .exit)) (now (next .exit)) ⌝ }
-{
-    let mut i: usize = 0;
-    while i < n {
-        let h = keys[i] % 1024;
-        next[i] = heads[h];
-        heads[h] = (i as u32) + 1;
-        i += 1;
-    }
-}
-
 // The chains of the first n entries, by their keys: in the first 1,024 numbers where each chain begins, at its last entry, and behind them where each entry's
 // chain goes on.
 pub fn link(keys: &[u64], n: usize, links: &mut [u32; 2048])

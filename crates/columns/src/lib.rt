@@ -1,25 +1,8 @@
 // Tables of structs as arrays of numbers. A table that is passed by value is copied at each call, and no table of structs can be lent; an array of
 // numbers can, so a test that goes through a table again and again makes its columns once and lends them.
-use places::Place;
 use table::BackingPages;
 use table::PageRange;
-ghost use mathlib.Core.Path.{_≡_};
-ghost use lib.ListN.{length};
-ghost use Rattle.columns.specs.Columns.{spotted};
 ghost use Rattle.columns.specs.Ranges.{Span, Tag};
-
-// Each frame's place as one number.
-pub fn spots(places: [Place; 1024], d: &mut [u64; 1024])
-    requires { ⌜ length (now d) ≡ 1024 ⌝ }
-    ensures { λ _. ⌜ spotted (now (d .exit)) ≡ places ⌝ }
-{
-    let mut f: usize = 0;
-    while f < 1024 {
-        let p = places[f];
-        d[f] = (p.backing as u64) * 4294967296 + (p.index as u64);
-        f += 1;
-    }
-}
 
 // A backing as one number: its own, and its kind above 32 bits.
 pub fn tag(k: BackingPages) -> usize

@@ -6,7 +6,7 @@ ghost use lib.ListN.{drop, length, take};
 ghost use Rattle.table.specs.Table.{rangesOf};
 ghost use Rattle.columns.specs.Ranges.{Spans, Tags};
 ghost use Rattle.store.specs.Abs.{used};
-ghost use Rattle.store.specs.Edits.{trimmed, vacated};
+ghost use Rattle.store.specs.Edits.{trimmed};
 ghost use Rattle.sheet.specs.Sheet.{storeOf, withPlaces};
 ghost use Rattle.sound_places.specs.Windows.{Hinted, Met};
 ghost use Rattle.tidy.specs.Tidy.{Long, Told};
@@ -99,26 +99,4 @@ pub fn trim(sheet: &mut [u64; 2579])
     columns_of(sheet, count, &mut tags, &mut spans);
     chains::link(&tags, count, &mut links);
     trim_along(sheet, count, &tags, &spans, &links);
-}
-
-// What stands at index i of backing b taken away.
-pub fn vacate(sheet: &mut [u64; 2579], b: u32, i: u32)
-    requires { ⌜ (length (now sheet) ≡ 2579) × (storeOf (now sheet) .frames ≤ 1024) ⌝ }
-    ensures { λ _. ⌜ (storeOf (now (sheet .exit)) ≡ withPlaces (vacated (storeOf (now (sheet .entry)) .frames) b i (storeOf (now (sheet .entry)) .places)) (storeOf (now (sheet .entry)))) × (length (now (sheet .exit)) ≡ 2579) ⌝ }
-{
-    let frames = sheet::frames(sheet);
-    let mut f: usize = 0;
-    while f < frames {
-        let p = sheet::place(sheet, f);
-        if places::stands_at(p, b, i) {
-            let q = Place {
-                backing: 0,
-                index: 0,
-            };
-            sheet::set_place(sheet, f, q);
-            f += 1;
-            continue;
-        }
-        f += 1;
-    }
 }

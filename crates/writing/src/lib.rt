@@ -96,6 +96,6 @@ pub fn copy_bytes(
         let at = offset + done;
         let m = PageNumber::in_page(at, n - done);
         copy_page(sheet, pool, source, from + done, object, at, m);
-        done += m;
+        done = done + m;
     }
 }
