@@ -1,4 +1,4 @@
-// TRIMMING AND VACATING ON A SHEET: places in no window go, or what stands at one place, with the sheet lent and each frame looked at once.
+// TRIMMING ON A SHEET: places in no window go, with the sheet lent and each frame looked at once.
 use places::Place;
 ghost use mathlib.Core.Path.{_≡_};
 ghost use Prim.Native.Nat.{_≤_};
