@@ -19,8 +19,8 @@ pub fn add(s: Store, pool: &mut [u8], object: u32, page: PageNumber) -> Added
     ensures { λ r. ⌜ (DidWith (add object (page .0)) s (now (pool .entry)) (r .number) (added (r .frame)) (r .store) (now (pool .exit))) × (0 < r .number → r .frame ≡ 0) ⌝ }
 {
     let mut sheet = [0u64; 2579];
-    let mut holders = [0u32; 2048];
-    let mut links = [0u32; 2048];
+    let mut holders = [0u16; 2048];
+    let mut links = [0u16; 2048];
     let k = enter::add(
         s,
         &mut sheet,
@@ -51,8 +51,8 @@ pub fn read(s: Store, pool: &[u8], object: u32, offset: usize, buf: &mut [u8]) -
     ensures { λ k. ⌜ (DidWith (read object offset (length (now (buf .entry)))) s (now (pool .entry)) k (bytes (now (buf .exit))) s (now (pool .entry))) × (0 < k → now (buf .exit) ≡ now (buf .entry)) ⌝ }
 {
     let mut sheet = [0u64; 2579];
-    let mut holders = [0u32; 2048];
-    let mut links = [0u32; 2048];
+    let mut holders = [0u16; 2048];
+    let mut links = [0u16; 2048];
     let n = buf.len();
     let k = enter::read(
         s,
@@ -76,8 +76,8 @@ pub fn write(s: Store, pool: &mut [u8], object: u32, offset: usize, src: &[u8]) 
     ensures { λ r. ⌜ DidWith (write object offset (now (src .entry))) s (now (pool .entry)) (r .number) done (r .store) (now (pool .exit)) ⌝ }
 {
     let mut sheet = [0u64; 2579];
-    let mut holders = [0u32; 2048];
-    let mut links = [0u32; 2048];
+    let mut holders = [0u16; 2048];
+    let mut links = [0u16; 2048];
     let n = src.len();
     let k = enter::write(
         s,

@@ -31,8 +31,8 @@ pub fn new_object(s: Store, object: u32) -> Reply
     ensures { λ r. ⌜ Did (newObject object) s (r .number) done (r .store) ⌝ }
 {
     let mut sheet = [0u64; 2579];
-    let mut holders = [0u32; 2048];
-    let mut links = [0u32; 2048];
+    let mut holders = [0u16; 2048];
+    let mut links = [0u16; 2048];
     let k = enter::new_object(s, &mut sheet, &mut holders, &mut links, object);
     if 0 < k {
         return Reply {
@@ -66,8 +66,8 @@ pub fn look_up(s: Store, object: u32, page: PageNumber) -> Looked
     ensures { λ r. ⌜ (Did (lookUp object (page .0)) s (r .number) (state (stateIs (r .state))) s) × (0 < r .number → r .state ≡ Absent) ⌝ }
 {
     let mut sheet = [0u64; 2579];
-    let mut holders = [0u32; 2048];
-    let mut links = [0u32; 2048];
+    let mut holders = [0u16; 2048];
+    let mut links = [0u16; 2048];
     let k = enter::look_up(s, &mut sheet, &mut holders, &mut links, object, page);
     if 0 < k {
         return Looked {
@@ -113,8 +113,8 @@ pub fn counts(s: Store) -> Numbers
     ensures { λ r. ⌜ (Did counts s (r .number) (numbers (r .frames) (r .ranges)) s) × (0 < r .number → (r .frames ≡ 0) × (r .ranges ≡ 0)) ⌝ }
 {
     let mut sheet = [0u64; 2579];
-    let mut holders = [0u32; 2048];
-    let mut links = [0u32; 2048];
+    let mut holders = [0u16; 2048];
+    let mut links = [0u16; 2048];
     let k = enter::counts(s, &mut sheet, &mut holders, &mut links);
     if 0 < k {
         return Numbers {
@@ -190,8 +190,8 @@ pub fn drop_object(s: Store, object: u32) -> Reply
     ensures { λ r. ⌜ Did (dropObject object) s (r .number) done (r .store) ⌝ }
 {
     let mut sheet = [0u64; 2579];
-    let mut holders = [0u32; 2048];
-    let mut links = [0u32; 2048];
+    let mut holders = [0u16; 2048];
+    let mut links = [0u16; 2048];
     let k = enter::drop_object(s, &mut sheet, &mut holders, &mut links, object);
     if 0 < k {
         return Reply {

@@ -7,7 +7,7 @@ ghost use Rattle.chains.specs.Chains.{Chained};
 
 // The chains of the first n entries, by their keys: in the first 1,024 numbers where each chain begins, at its last entry, and behind them where each entry's
 // chain goes on.
-pub fn link(keys: &[u64], n: usize, links: &mut [u32; 2048])
+pub fn link(keys: &[u64], n: usize, links: &mut [u16; 2048])
     requires { ⌜ (n ≤ 1024) × (n ≤ length (now keys)) × (now links ≡ replicate 2048 0) ⌝ }
     ensures { λ _. ⌜ (Chained (now (keys .entry)) n (take 1024 (now (links .exit))) (drop 1024 (now (links .exit)))) × (length (now (links .exit)) ≡ 2048) ⌝ }
 {
@@ -15,7 +15,7 @@ pub fn link(keys: &[u64], n: usize, links: &mut [u32; 2048])
     while i < n {
         let h = (keys[i] % 1024) as usize;
         links[1024 + i] = links[h];
-        links[h] = (i as u32) + 1;
+        links[h] = (i as u16) + 1;
         i += 1;
     }
 }

@@ -29,8 +29,8 @@ pub fn zero_ranges(s: Store, pool: &mut [u8], object: u32, offset: usize, n: usi
     ensures { λ r. ⌜ DidWith (zeroOut object offset n) s (now (pool .entry)) (r .number) done (r .store) (now (pool .exit)) ⌝ }
 {
     let mut sheet = [0u64; 2579];
-    let mut holders = [0u32; 2048];
-    let mut links = [0u32; 2048];
+    let mut holders = [0u16; 2048];
+    let mut links = [0u16; 2048];
     let k = enter::zero(
         s,
         &mut sheet,
@@ -109,8 +109,8 @@ pub fn copy_ranges(
     ensures { λ r. ⌜ DidWith (copy source from object to n) s (now (pool .entry)) (r .number) done (r .store) (now (pool .exit)) ⌝ }
 {
     let mut sheet = [0u64; 2579];
-    let mut holders = [0u32; 2048];
-    let mut links = [0u32; 2048];
+    let mut holders = [0u16; 2048];
+    let mut links = [0u16; 2048];
     let k = enter::copy(
         s,
         &mut sheet,
@@ -150,8 +150,8 @@ pub fn copy_range_to_shadow(
     ensures { λ r. ⌜ DidWith (shadow source from object to n) s (now (pool .entry)) (r .number) done (r .store) (now (pool .entry)) ⌝ }
 {
     let mut sheet = [0u64; 2579];
-    let mut holders = [0u32; 2048];
-    let mut links = [0u32; 2048];
+    let mut holders = [0u16; 2048];
+    let mut links = [0u16; 2048];
     let k = enter::shadow(
         s,
         &mut sheet,

@@ -13,8 +13,8 @@ ghost use Rattle.enter.specs.Enter.{Clean, Entered};
 pub fn new_object(
     s: Store,
     sheet: &mut [u64; 2579],
-    holders: &mut [u32; 2048],
-    links: &mut [u32; 2048],
+    holders: &mut [u16; 2048],
+    links: &mut [u16; 2048],
     object: u32,
 ) -> u8
     requires { ⌜ Clean (now sheet) (now holders) (now links) ⌝ }
@@ -29,8 +29,8 @@ pub fn new_object(
 pub fn drop_object(
     s: Store,
     sheet: &mut [u64; 2579],
-    holders: &mut [u32; 2048],
-    links: &mut [u32; 2048],
+    holders: &mut [u16; 2048],
+    links: &mut [u16; 2048],
     object: u32,
 ) -> u8
     requires { ⌜ Clean (now sheet) (now holders) (now links) ⌝ }
@@ -45,8 +45,8 @@ pub fn drop_object(
 pub fn look_up(
     s: Store,
     sheet: &mut [u64; 2579],
-    holders: &mut [u32; 2048],
-    links: &mut [u32; 2048],
+    holders: &mut [u16; 2048],
+    links: &mut [u16; 2048],
     object: u32,
     page: PageNumber,
 ) -> u8
@@ -62,8 +62,8 @@ pub fn look_up(
 pub fn show(
     s: Store,
     sheet: &mut [u64; 2579],
-    holders: &mut [u32; 2048],
-    links: &mut [u32; 2048],
+    holders: &mut [u16; 2048],
+    links: &mut [u16; 2048],
     pool: usize,
     object: u32,
     page: PageNumber,
@@ -80,8 +80,8 @@ pub fn show(
 pub fn add(
     s: Store,
     sheet: &mut [u64; 2579],
-    holders: &mut [u32; 2048],
-    links: &mut [u32; 2048],
+    holders: &mut [u16; 2048],
+    links: &mut [u16; 2048],
     pool: usize,
     object: u32,
     page: PageNumber,
@@ -98,8 +98,8 @@ pub fn add(
 pub fn read(
     s: Store,
     sheet: &mut [u64; 2579],
-    holders: &mut [u32; 2048],
-    links: &mut [u32; 2048],
+    holders: &mut [u16; 2048],
+    links: &mut [u16; 2048],
     pool: usize,
     object: u32,
     offset: usize,
@@ -117,8 +117,8 @@ pub fn read(
 pub fn write(
     s: Store,
     sheet: &mut [u64; 2579],
-    holders: &mut [u32; 2048],
-    links: &mut [u32; 2048],
+    holders: &mut [u16; 2048],
+    links: &mut [u16; 2048],
     pool: usize,
     object: u32,
     offset: usize,
@@ -136,8 +136,8 @@ pub fn write(
 pub fn copy(
     s: Store,
     sheet: &mut [u64; 2579],
-    holders: &mut [u32; 2048],
-    links: &mut [u32; 2048],
+    holders: &mut [u16; 2048],
+    links: &mut [u16; 2048],
     pool: usize,
     source: u32,
     from: usize,
@@ -157,8 +157,8 @@ pub fn copy(
 pub fn shadow(
     s: Store,
     sheet: &mut [u64; 2579],
-    holders: &mut [u32; 2048],
-    links: &mut [u32; 2048],
+    holders: &mut [u16; 2048],
+    links: &mut [u16; 2048],
     pool: usize,
     source: u32,
     from: usize,
@@ -178,8 +178,8 @@ pub fn shadow(
 pub fn zero(
     s: Store,
     sheet: &mut [u64; 2579],
-    holders: &mut [u32; 2048],
-    links: &mut [u32; 2048],
+    holders: &mut [u16; 2048],
+    links: &mut [u16; 2048],
     pool: usize,
     object: u32,
     offset: usize,
@@ -197,8 +197,8 @@ pub fn zero(
 pub fn counts(
     s: Store,
     sheet: &mut [u64; 2579],
-    holders: &mut [u32; 2048],
-    links: &mut [u32; 2048],
+    holders: &mut [u16; 2048],
+    links: &mut [u16; 2048],
 ) -> u8
     requires { ⌜ Clean (now sheet) (now holders) (now links) ⌝ }
     ensures { λ q. ⌜ ((x : List ℕ) → q ≡ refusal s x (counts)) × Sized s × (q ≡ 0 → Entered s (now (sheet .exit)) (now (links .exit))) ⌝ }

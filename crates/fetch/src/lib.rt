@@ -21,7 +21,7 @@ ghost use Rattle.seek.specs.Framed.{Charted};
 // n bytes from place k of page g of the line, stored in buf from index at. "Absent bytes read as zero."
 pub fn read_page(
     sheet: &[u64; 2579],
-    links: &[u32; 2048],
+    links: &[u16; 2048],
     pool: &[u8],
     g: usize,
     k: usize,
@@ -42,7 +42,7 @@ pub fn read_page(
 // The bytes of an object from offset on, as many as fill buf.
 pub fn read_pages(
     sheet: &[u64; 2579],
-    links: &[u32; 2048],
+    links: &[u16; 2048],
     pool: &[u8],
     object: u32,
     offset: usize,
@@ -69,7 +69,7 @@ pub fn read_pages(
 // written, and the answer is no.
 pub fn overwrite_page(
     sheet: &[u64; 2579],
-    links: &[u32; 2048],
+    links: &[u16; 2048],
     pool: &mut [u8],
     object: u32,
     offset: usize,
@@ -95,7 +95,7 @@ pub fn overwrite_page(
 // The bytes of src written from `offset` on as far as the pages are present and private, so that the store stays: how many bytes are written.
 pub fn overwrite_pages(
     sheet: &[u64; 2579],
-    links: &[u32; 2048],
+    links: &[u16; 2048],
     pool: &mut [u8],
     object: u32,
     offset: usize,

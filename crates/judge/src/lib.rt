@@ -192,7 +192,7 @@ pub fn read(sheet: &[u64; 2579], pool: usize, object: u32, offset: usize, n: usi
 }
 
 // The frames that page g of the line wants: one if it is shared, `absent` if it is absent.
-fn wants(sheet: &[u64; 2579], links: &[u32; 2048], g: usize, absent: usize) -> usize
+fn wants(sheet: &[u64; 2579], links: &[u16; 2048], g: usize, absent: usize) -> usize
     requires { ⌜ (Charted (now sheet) (now links)) × (g < 1000000000000000000) × (absent ≤ 1) ⌝ }
     ensures { λ r. ⌜ (r ≡ framesAt absent (storeOf (now (sheet .entry))) g) × (r ≤ 1) ⌝ }
 {
@@ -206,7 +206,7 @@ fn wants(sheet: &[u64; 2579], links: &[u32; 2048], g: usize, absent: usize) -> u
 // How many of the n pages from `page` on are absent or shared. Counting stops above the limit: the answer is known then.
 fn wanted(
     sheet: &[u64; 2579],
-    links: &[u32; 2048],
+    links: &[u16; 2048],
     object: u32,
     page: PageNumber,
     n: usize,
@@ -232,7 +232,7 @@ fn wanted(
 // "For a write .., each touched destination page counts that is absent or shared at entry", looked at in at most frames + 1 pages.
 fn counted(
     sheet: &[u64; 2579],
-    links: &[u32; 2048],
+    links: &[u16; 2048],
     object: u32,
     offset: usize,
     n: usize,
@@ -253,7 +253,7 @@ fn counted(
 // 8 or 9 of a write, or of a copy at unequal places.
 fn lacking_bytes(
     sheet: &[u64; 2579],
-    links: &[u32; 2048],
+    links: &[u16; 2048],
     object: u32,
     offset: usize,
     n: usize,
@@ -268,7 +268,7 @@ fn lacking_bytes(
 
 pub fn write(
     sheet: &[u64; 2579],
-    links: &[u32; 2048],
+    links: &[u16; 2048],
     pool: usize,
     object: u32,
     offset: usize,
@@ -290,7 +290,7 @@ pub fn write(
 // "each partly touched page counts: always if there are whole pages too, else if absent or shared (zeroing: present and shared)": n bytes of it
 fn partly(
     sheet: &[u64; 2579],
-    links: &[u32; 2048],
+    links: &[u16; 2048],
     p: Span,
     object: u32,
     page: PageNumber,
@@ -313,7 +313,7 @@ fn partly(
 // The partly touched pages that count, of the n bytes from `offset` on.
 fn counted_parts(
     sheet: &[u64; 2579],
-    links: &[u32; 2048],
+    links: &[u16; 2048],
     object: u32,
     offset: usize,
     n: usize,
@@ -364,7 +364,7 @@ fn met_whole(sheet: &[u64; 2579], source: u32, offset: usize, n: usize) -> usize
 // 8 or 9 of a copy.
 fn lacking_copy(
     sheet: &[u64; 2579],
-    links: &[u32; 2048],
+    links: &[u16; 2048],
     source: u32,
     from: usize,
     object: u32,
@@ -384,7 +384,7 @@ fn lacking_copy(
 
 pub fn copy(
     sheet: &[u64; 2579],
-    links: &[u32; 2048],
+    links: &[u16; 2048],
     pool: usize,
     source: u32,
     from: usize,
@@ -428,7 +428,7 @@ pub fn shadow(
 // 8 or 9 of zeroing: "zeroing whole pages needs one" slot besides.
 fn lacking_zero(
     sheet: &[u64; 2579],
-    links: &[u32; 2048],
+    links: &[u16; 2048],
     object: u32,
     offset: usize,
     n: usize,
@@ -443,7 +443,7 @@ fn lacking_zero(
 
 pub fn zero(
     sheet: &[u64; 2579],
-    links: &[u32; 2048],
+    links: &[u16; 2048],
     pool: usize,
     object: u32,
     offset: usize,

@@ -16,7 +16,7 @@ ghost use Rattle.sheet.specs.Sheet.{storeOf};
 ghost use Rattle.seek.specs.Framed.{Charted, Framed, Lone};
 
 // The frame that stands at this backing and index: a walk along the chain of that place.
-pub fn frame_of(sheet: &[u64; 2579], links: &[u32; 2048], backing: u32, index: u32) -> Frame
+pub fn frame_of(sheet: &[u64; 2579], links: &[u16; 2048], backing: u32, index: u32) -> Frame
     requires { ⌜ (Framed (now sheet) (now links)) × (storeOf (now sheet) .frames ≤ 1024) × Lone (storeOf (now sheet)) ⌝ }
     ensures { λ r. ⌜ r ≡ frameAt backing index 0 (take (storeOf (now (sheet .entry)) .frames) (storeOf (now (sheet .entry)) .places)) ⌝ }
 {
@@ -33,7 +33,7 @@ pub fn frame_of(sheet: &[u64; 2579], links: &[u32; 2048], backing: u32, index: u
 }
 
 // Page g of the line, which range r covers.
-fn in_range(sheet: &[u64; 2579], links: &[u32; 2048], r: PageRange, g: usize) -> PageAt
+fn in_range(sheet: &[u64; 2579], links: &[u16; 2048], r: PageRange, g: usize) -> PageAt
     requires { ⌜ (Charted (now sheet) (now links)) × (Small r) × (from (ranged r) ≤ g) × (g < upto (ranged r)) ⌝ }
     ensures { λ q. ⌜ q ≡ inRange (storeOf (now (sheet .entry))) r g ⌝ }
 {
@@ -47,7 +47,7 @@ fn in_range(sheet: &[u64; 2579], links: &[u32; 2048], r: PageRange, g: usize) ->
 }
 
 // Page g of the line.
-pub fn locate(sheet: &[u64; 2579], links: &[u32; 2048], g: usize) -> PageAt
+pub fn locate(sheet: &[u64; 2579], links: &[u16; 2048], g: usize) -> PageAt
     requires { ⌜ (Charted (now sheet) (now links)) × (g < 1000000000000000000) ⌝ }
     ensures { λ q. ⌜ q ≡ located (storeOf (now (sheet .entry))) g ⌝ }
 {
@@ -71,7 +71,7 @@ pub fn sharing(sheet: &[u64; 2579], backing: u32) -> State
 }
 
 // The state of page g of the line.
-pub fn state_of(sheet: &[u64; 2579], links: &[u32; 2048], g: usize) -> State
+pub fn state_of(sheet: &[u64; 2579], links: &[u16; 2048], g: usize) -> State
     requires { ⌜ (Charted (now sheet) (now links)) × (g < 1000000000000000000) ⌝ }
     ensures { λ q. ⌜ q ≡ seen (storeOf (now (sheet .entry))) (located (storeOf (now (sheet .entry))) g) ⌝ }
 {
@@ -82,7 +82,7 @@ pub fn state_of(sheet: &[u64; 2579], links: &[u32; 2048], g: usize) -> State
 }
 
 // The frame of page g of the line, if it is present and private.
-pub fn private_frame(sheet: &[u64; 2579], links: &[u32; 2048], g: usize) -> Frame
+pub fn private_frame(sheet: &[u64; 2579], links: &[u16; 2048], g: usize) -> Frame
     requires { ⌜ (Charted (now sheet) (now links)) × (g < 1000000000000000000) ⌝ }
     ensures { λ q. ⌜ q ≡ privateIn (storeOf (now (sheet .entry))) (located (storeOf (now (sheet .entry))) g) ⌝ }
 {

@@ -34,7 +34,7 @@ fn load(s: Store, sheet: &mut [u64; 2579]) -> bool
 }
 
 // "Ranges that hold one backing agree on its kind."
-fn agree(sheet: &[u64], holders: &[u32], count: usize) -> bool
+fn agree(sheet: &[u64], holders: &[u16], count: usize) -> bool
     requires { ⌜ (count ≤ 512) × (length (now sheet) ≡ 2579) × (length (now holders) ≡ 2048) × Links (now sheet) count (now holders) ⌝ }
     ensures { λ q. ⌜ q ≡ agreeing? (now (sheet .entry)) count ⌝ }
 {
@@ -47,8 +47,8 @@ fn rest_tests(
     count: usize,
     frames: usize,
     free: [u64; 16],
-    holders: &[u32],
-    links: &[u32],
+    holders: &[u16],
+    links: &[u16],
 ) -> bool
     requires { ⌜ (frames ≤ 1024) × (count ≤ 512) × Chains (now sheet) count (now holders) × (length (now links) ≡ 2048) × SpotChains (spotsOf (now sheet)) frames (take 1024 (now links)) (drop 1024 (now links)) ⌝ }
     ensures { λ q. ⌜ q ≡ resting? frames count free (now (sheet .entry)) (now (holders .entry)) ⌝ }
@@ -83,8 +83,8 @@ fn place_tests(
     count: usize,
     frames: usize,
     free: [u64; 16],
-    holders: &[u32],
-    links: &mut [u32; 2048],
+    holders: &[u16],
+    links: &mut [u16; 2048],
 ) -> bool
     requires { ⌜ (frames ≤ 1024) × (count ≤ 512) × Chains (now sheet) count (now holders) × (now links ≡ replicate 2048 0) ⌝ }
     ensures { λ q. ⌜ (q ≡ placed? frames count free (now (sheet .entry)) (now (holders .entry))) × (q ≡ true → SpotChains (spotsOf (now (sheet .entry))) frames (take 1024 (now (links .exit))) (drop 1024 (now (links .exit)))) ⌝ }
@@ -101,8 +101,8 @@ fn tests(
     count: usize,
     frames: usize,
     free: [u64; 16],
-    holders: &mut [u32; 2048],
-    links: &mut [u32; 2048],
+    holders: &mut [u16; 2048],
+    links: &mut [u16; 2048],
 ) -> bool
     requires { ⌜ (frames ≤ 1024) × (count ≤ 512) × (length (now sheet) ≡ 2579) × ((i : ℕ) → i < count → Numbered (now sheet) i) × (now holders ≡ replicate 2048 0) × (now links ≡ replicate 2048 0) ⌝ }
     ensures { λ q. ⌜ Tested frames count free (now (sheet .entry)) q (now (links .exit)) ⌝ }
@@ -118,8 +118,8 @@ fn tests(
 pub fn examine(
     s: Store,
     sheet: &mut [u64; 2579],
-    holders: &mut [u32; 2048],
-    links: &mut [u32; 2048],
+    holders: &mut [u16; 2048],
+    links: &mut [u16; 2048],
 ) -> bool
     requires { ⌜ (length (now sheet) ≡ 2579) × (now holders ≡ replicate 2048 0) × (now links ≡ replicate 2048 0) ⌝ }
     ensures { λ q. ⌜ (q ≡ sound? s) × Sized s × (q ≡ true → Examined s (now (sheet .exit)) (now (links .exit))) ⌝ }
@@ -138,7 +138,7 @@ pub fn sound(s: Store) -> bool
     ensures { λ q. ⌜ (q ≡ sound? s) × Sized s ⌝ }
 {
     let mut sheet = [0u64; 2579];
-    let mut holders = [0u32; 2048];
-    let mut links = [0u32; 2048];
+    let mut holders = [0u16; 2048];
+    let mut links = [0u16; 2048];
     examine(s, &mut sheet, &mut holders, &mut links)
 }

@@ -25,7 +25,7 @@ pub fn in_window(tag: u64, span: u64, x: u64) -> bool
 }
 
 // The first link, from link k on along its chain, to a range that has the spot x in its window; or 0.
-pub fn window_from(tags: &[u64], spans: &[u64], next: &[u32], k: usize, x: u64) -> usize
+pub fn window_from(tags: &[u64], spans: &[u64], next: &[u16], k: usize, x: u64) -> usize
     requires { ⌜ (k ≤ 512) × Falls (now next) k × (length (now tags) ≡ 512) × (length (now spans) ≡ 512) × (length (now next) ≡ 1024) ⌝ }
     ensures { λ r. ⌜ Found (now (tags .entry)) (now (spans .entry)) (now (next .entry)) x k r ⌝ }
 {
@@ -90,7 +90,7 @@ fn near(
     lines: &[u64],
     tags: &[u64],
     spans: &[u64],
-    next: &[u32],
+    next: &[u16],
     count: usize,
     k: usize,
     x: u64,
@@ -124,8 +124,8 @@ fn searched(
     lines: &[u64],
     tags: &[u64],
     spans: &[u64],
-    heads: &[u32],
-    next: &[u32],
+    heads: &[u16],
+    next: &[u16],
     count: usize,
     hint: usize,
     x: u64,
@@ -153,8 +153,8 @@ pub fn frame_window(
     lines: &[u64],
     tags: &[u64],
     spans: &[u64],
-    heads: &[u32],
-    next: &[u32],
+    heads: &[u16],
+    next: &[u16],
     count: usize,
     hint: usize,
     x: u64,
@@ -176,8 +176,8 @@ pub fn all_windows(
     lines: &[u64],
     tags: &[u64],
     spans: &[u64],
-    heads: &[u32],
-    next: &[u32],
+    heads: &[u16],
+    next: &[u16],
     count: usize,
 ) -> bool
     requires { ⌜ (frames ≤ length (now spots)) × Hinted (now tags) (now heads) (now next) count 0 × Wide (now lines) (now tags) (now spans) (now heads) (now next) ⌝ }
@@ -210,7 +210,7 @@ pub fn key(spot: u64, f: usize) -> usize
 }
 
 // Whether no frame before frame f stands at its place: a walk along its chain, whose links stand behind 1,024 heads.
-pub fn alone(spots: &[u64], links: &[u32; 2048], f: usize) -> bool
+pub fn alone(spots: &[u64], links: &[u16; 2048], f: usize) -> bool
     requires { ⌜ (f < 1024) × Walk (drop 1024 (now links)) (apartFrom (spotted (now spots)) f) f (getD (drop 1024 (now links)) f 0) × (length (now spots) ≡ 1024) ⌝ }
     ensures { λ q. ⌜ q ≡ alone? (spotted (now (spots .entry))) f ⌝ }
 {
@@ -230,7 +230,7 @@ pub fn alone(spots: &[u64], links: &[u32; 2048], f: usize) -> bool
 
 // "Each frame is free or stands in exactly one backing at one index, no two at the same." Frames are chained by their keys on the way, each compared with those of
 // its chain before it.
-pub fn chain_frames(spots: &[u64], frames: usize, links: &mut [u32; 2048]) -> bool
+pub fn chain_frames(spots: &[u64], frames: usize, links: &mut [u16; 2048]) -> bool
     requires { ⌜ (frames ≤ 1024) × (length (now spots) ≡ 1024) × (now links ≡ replicate 2048 0) ⌝ }
     ensures { λ q. ⌜ (q ≡ allBelow (alone? (spotted (now (spots .entry)))) frames) × (q ≡ true → SpotChains (now (spots .entry)) frames (take 1024 (now (links .exit))) (drop 1024 (now (links .exit)))) × (length (now (links .exit)) ≡ 2048) ⌝ }
 {
@@ -238,7 +238,7 @@ pub fn chain_frames(spots: &[u64], frames: usize, links: &mut [u32; 2048]) -> bo
     while f < frames {
         let h = key(spots[f], f) % 1024;
         links[1024 + f] = links[h];
-        links[h] = (f as u32) + 1;
+        links[h] = (f as u16) + 1;
         if alone(spots, links, f) {
             f += 1;
         } else {
@@ -249,7 +249,7 @@ pub fn chain_frames(spots: &[u64], frames: usize, links: &mut [u32; 2048]) -> bo
 }
 
 // Whether one of the frames stands at index 0 of backing b: a walk along the chain of that place.
-pub fn stands(spots: &[u64], heads: &[u32], next: &[u32], frames: usize, b: u64) -> bool
+pub fn stands(spots: &[u64], heads: &[u16], next: &[u16], frames: usize, b: u64) -> bool
     requires { ⌜ (frames ≤ 1024) × (0 < b) × (b < 4294967296) × SpotChains (now spots) frames (now heads) (now next) × (length (now spots) ≡ 1024) × (length (now heads) ≡ 1024) × (length (now next) ≡ 1024) ⌝ }
     ensures { λ q. ⌜ q ≡ stands? (spotted (now (spots .entry))) frames b 0 ⌝ }
 {
@@ -265,7 +265,7 @@ pub fn stands(spots: &[u64], heads: &[u32], next: &[u32], frames: usize, b: u64)
 }
 
 // "A `Single` range has .. its frame at index 0", of the range with this tag. A range of another kind passes.
-pub fn seated(spots: &[u64], heads: &[u32], next: &[u32], frames: usize, tag: u64) -> bool
+pub fn seated(spots: &[u64], heads: &[u16], next: &[u16], frames: usize, tag: u64) -> bool
     requires { ⌜ (frames ≤ 1024) × (0 < tag % 4294967296) × SpotChains (now spots) frames (now heads) (now next) × (length (now spots) ≡ 1024) × (length (now heads) ≡ 1024) × (length (now next) ≡ 1024) ⌝ }
     ensures { λ q. ⌜ q ≡ pick (eqb (tag / 4294967296) 1) (stands? (spotted (now (spots .entry))) frames (tag % 4294967296) 0) true ⌝ }
 {
@@ -278,8 +278,8 @@ pub fn seated(spots: &[u64], heads: &[u32], next: &[u32], frames: usize, tag: u6
 // The same of every range.
 pub fn all_seated(
     spots: &[u64],
-    heads: &[u32],
-    next: &[u32],
+    heads: &[u16],
+    next: &[u16],
     frames: usize,
     tags: &[u64],
     count: usize,

@@ -136,7 +136,7 @@ pub fn same_kind(x: u64, y: u64) -> bool
 }
 
 // The backing of range i agrees with that of every range before it, where those agree: a walk along its chain to the first of its own backing.
-pub fn agrees(tags: &[u64], next: &[u32], i: usize) -> bool
+pub fn agrees(tags: &[u64], next: &[u16], i: usize) -> bool
     requires { ⌜ (i < length (now tags)) × Walk (now next) (alikeTo (now tags) i) i (getD (now next) i 0) × (allBelow (λ j. allBelow (alikeTo (now tags) j) j) i ≡ true) × (length (now tags) ≤ length (now next)) × (length (now next) ≤ 1024) ⌝ }
     ensures { λ q. ⌜ q ≡ allBelow (alikeTo (now (tags .entry)) i) i ⌝ }
 {
@@ -157,7 +157,7 @@ pub fn agrees(tags: &[u64], next: &[u32], i: usize) -> bool
 }
 
 // "Ranges that hold one backing agree on its kind."
-pub fn all_agree(tags: &[u64], next: &[u32], count: usize) -> bool
+pub fn all_agree(tags: &[u64], next: &[u16], count: usize) -> bool
     requires { ⌜ (count ≤ length (now tags)) × (Linked (now tags) count (now next)) × (length (now tags) ≤ length (now next)) × (length (now next) ≤ 1024) ⌝ }
     ensures { λ q. ⌜ q ≡ allBelow (λ i. allBelow (alikeTo (now (tags .entry)) i) i) count ⌝ }
 {

@@ -31,7 +31,7 @@ fn window_of(
     sheet: &[u64],
     tags: &[u64],
     spans: &[u64],
-    links: &[u32],
+    links: &[u16],
     count: usize,
     hint: usize,
     x: u64,
@@ -57,7 +57,7 @@ fn trim_along(
     count: usize,
     tags: &[u64; 512],
     spans: &[u64; 512],
-    links: &[u32; 2048],
+    links: &[u16; 2048],
 )
     requires { ⌜ (length (now sheet) ≡ 2579) × (storeOf (now sheet) .frames ≤ 1024) × Told (storeOf (now sheet)) count (now tags) (now spans) (now links) ⌝ }
     ensures { λ _. ⌜ (storeOf (now (sheet .exit)) ≡ withPlaces (trimmed (storeOf (now (sheet .entry)) .frames) (rangesOf (used (storeOf (now (sheet .entry))))) (storeOf (now (sheet .entry)) .places)) (storeOf (now (sheet .entry)))) × (length (now (sheet .exit)) ≡ 2579) ⌝ }
@@ -95,7 +95,7 @@ pub fn trim(sheet: &mut [u64; 2579])
     let count = sheet::count(sheet);
     let mut tags = [0u64; 512];
     let mut spans = [0u64; 512];
-    let mut links = [0u32; 2048];
+    let mut links = [0u16; 2048];
     columns_of(sheet, count, &mut tags, &mut spans);
     chains::link(&tags, count, &mut links);
     trim_along(sheet, count, &tags, &spans, &links);

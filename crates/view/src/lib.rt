@@ -16,8 +16,8 @@ fn frame_shown(s: Store, pool: usize, object: u32, page: PageNumber) -> Frame
     ensures { λ r. ⌜ ((x : List ℕ) → length x ≡ pool → frameNumber r ≡ frameShown s x object (page .0)) × Inside pool r ⌝ }
 {
     let mut sheet = [0u64; 2579];
-    let mut holders = [0u32; 2048];
-    let mut links = [0u32; 2048];
+    let mut holders = [0u16; 2048];
+    let mut links = [0u16; 2048];
     let k = enter::show(s, &mut sheet, &mut holders, &mut links, pool, object, page);
     if 0 < k {
         return Frame::Nothing;
