@@ -8,10 +8,10 @@ use native.Mathlib.Omega.{arith}
 use lib.Dec.{eqb, leb, ltb}
 use lib.ListN.{getD, length, take}
 use lib.Seq.{take-suc}
-use borrow.Author.Tests.{eq-eqb, ne-eqb}
+use borrow.Author.Tests.{eq-eqb, eqb-true, le-leb, le-ltb, leb-false, leb-true, lt-ltb, ne-eqb}
 use Rattle.table.specs.declared.PageRange.{PageRange}
 use Rattle.places.specs.declared.Place.{Place}
-use Rattle.lists.specs.Test.{by-eq}
+use Rattle.lists.specs.Test.{pick, and-left, and-right, by-eq, by-lt, by-test}
 use Rattle.lists.specs.Every.{allBelow, below-fails}
 use Rattle.ranges.specs.Range.{Range}
 use Rattle.ranges.specs.Table.{named, window}
@@ -71,8 +71,20 @@ pub record Found (ts xs ns : List ℕ) (x k r : ℕ) : Type 0 where
 -- r is a link to one of the n ranges with the spot x in its window, or 0 where the walk along the chain of its backing finds none
 pub record Met (ts xs hs ns : List ℕ) (n x r : ℕ) : Type 0 where
   pub low : r ≤ n
+  pub hit : 0 < r → windowIn (getD ts (r - 1) 0) (getD xs (r - 1) 0) (x / 4294967296) (x % 4294967296) ≡ true
   pub none : r ≡ 0 → allBelow (outsideAt ts xs x) (getD hs (x / 4294967296 % 1024) 0) ≡ true
   pub some : 0 < r → allBelow (outsideAt ts xs x) (getD hs (x / 4294967296 % 1024) 0) ≡ false
+
+-- every spot from `low` up to `high` lies in a window
+pub record Seen (ts xs hs : List ℕ) (low high : ℕ) : Type 0 where
+  pub met : (x : ℕ) → low ≤ x → x < high → allBelow (outsideAt ts xs x) (getD hs (x / 4294967296 % 1024) 0) ≡ false
+
+-- whether a spot is to be looked for: not one that lies there, nor that of a free frame
+abbrev pub sought : ℕ → ℕ → ℕ → Bool
+sought low high x = (ltb x low || leb high x) && leb 4294967296 x
+
+pub sought-used : (low high x : ℕ) → sought low high x ≡ true → 0 < x / 4294967296
+sought-used low high x e = let l = leb-true 4294967296 x (and-right (ltb x low || leb high x) (leb 4294967296 x) e) in omega arith
 
 -- ---- a walk from link k on, which is at link j
 pub record Going (ts xs ns : List ℕ) (x k j : ℕ) : Type 0 where
@@ -137,7 +149,7 @@ module _ (ts xs hs ns : List ℕ) (n x hint : ℕ) (H : Hinted ts hs ns n hint) 
 
   met : (r : ℕ) → r ≤ n → (r ≡ 0 → allBelow (outsideAt ts xs x) (getD hs (x / 4294967296 % 1024) 0) ≡ true)
       → (0 < r → windowIn (getD ts (r - 1) 0) (getD xs (r - 1) 0) (x / 4294967296) (x % 4294967296) ≡ true) → Met ts xs hs ns n x r
-  met r l z e = record { low = l; none = z; some = λ h. met-by ts xs hs ns n (H .chained) x r h l (e h) }
+  met r l z e = record { low = l; hit = e; none = z; some = λ h. met-by ts xs hs ns n (H .chained) x r h l (e h) }
 
   pub met-hit : (k r : ℕ) → k ≤ n → Hit ts xs x k r → 0 < r → Met ts xs hs ns n x r
   met-hit k r l F h = let b = F .low in met r (omega arith) (λ z. absurd (omega arith)) (F .hit)
@@ -149,12 +161,56 @@ module _ (ts xs hs ns : List ℕ) (n x hint : ℕ) (H : Hinted ts hs ns n hint) 
       met r (omega (arith, head-low))
       (λ z. F .none z (getD hs (x / 4294967296 % 1024) 0) (walk-here ns (outsideAt ts xs x) n (getD hs (x / 4294967296 % 1024) 0) W)) (F .hit)
 
+  -- the window that was met, if it does not reach the next backing
+  pub seen-met : (r : ℕ) → 0 < r → Met ts xs hs ns n x r → (low high : ℕ) → low ≡ x - x % 4294967296 + getD xs (r - 1) 0 / 4294967296
+      → high ≡ pick (leb 4294967296 (getD xs (r - 1) 0 / 4294967296 + getD xs (r - 1) 0 % 4294967296)) 0 (x - x % 4294967296 + (getD xs (r - 1) 0 / 4294967296 + getD xs (r - 1) 0 % 4294967296)) → Seen ts xs hs low high
+  seen-met r h M low high p q =
+      by-test (leb 4294967296 (o + c))
+      (λ e. record { met = λ y b l. absurd (let z : high ≡ 0 = q ∙ rw e in omega arith) })
+      (λ e. record { met = λ y b l. met-by ts xs hs ns n (H .chained) y r h (M .low) (within y (leb-false 4294967296 (o + c) e) b (let z : high ≡ x - x % 4294967296 + (o + c) = q ∙ rw e in omega arith)) })
+    where
+      o : ℕ
+      o = getD xs (r - 1) 0 / 4294967296
+
+      c : ℕ
+      c = getD xs (r - 1) 0 % 4294967296
+
+      t : ℕ
+      t = getD ts (r - 1) 0 % 4294967296
+
+      same : x / 4294967296 ≡ t
+      same = eqb-true (x / 4294967296) t (and-left (eqb (x / 4294967296) t) (leb o (x % 4294967296) && ltb (x % 4294967296) (o + c)) (M .hit h))
+
+      within : (y : ℕ) → o + c < 4294967296 → low ≤ y → y < low + c → windowIn (getD ts (r - 1) 0) (getD xs (r - 1) 0) (y / 4294967296) (y % 4294967296) ≡ true
+      within y s b l =
+          let d : y / 4294967296 ≡ x / 4294967296 = omega arith in
+          let i : y % 4294967296 ≡ y - (x - x % 4294967296) = omega arith in
+          rw (eq-eqb (y / 4294967296) t (d ∙ same), le-leb o (y % 4294967296) (omega arith), lt-ltb (y % 4294967296) (o + c) (omega arith))
+
+pub seen-none : (ts xs hs : List ℕ) → Seen ts xs hs 0 0
+seen-none ts xs hs = record { met = λ x b l. absurd (omega arith) }
+
 -- ---- all frames
 module _ (ts xs hs ss : List ℕ) (f : ℕ) where
   pub walked-free : getD ss f 0 / 4294967296 ≤ 0 → walked? ts xs hs (placeAt (spotted ss) f) ≡ true
   walked-free h =
       let e : getD ss f 0 / 4294967296 ≡ 0 = omega arith in
       ap (walked? ts xs hs) (spot-at ss f) ∙ rw (eq-eqb (getD ss f 0 / 4294967296) 0 e)
+
+  -- a frame that is not looked for: it stands in the window that was found last, or it is free
+  pub walked-seen : (low high : ℕ) → Seen ts xs hs low high → sought low high (getD ss f 0) ≡ false → walked? ts xs hs (placeAt (spotted ss) f) ≡ true
+  walked-seen low high S e =
+      by-lt x 4294967296
+      (λ u. walked-free (omega arith))
+      (λ u. by-lt x low
+      (λ o. absurd (false≢true (sym e ∙ rw (lt-ltb x low o, le-leb 4294967296 x u))))
+      (λ b. by-lt x high (λ l. seen b l) (λ o. absurd (false≢true (sym e ∙ rw (le-ltb x low b, le-leb high x o, le-leb 4294967296 x u))))))
+    where
+      x : ℕ
+      x = getD ss f 0
+
+      seen : low ≤ x → x < high → walked? ts xs hs (placeAt (spotted ss) f) ≡ true
+      seen b l = ap (walked? ts xs hs) (spot-at ss f) ∙ by-test (eqb (x / 4294967296) 0) (λ e. rw e) (λ e. rw (e, S .met x b l))
 
   module _ (ns : List ℕ) (n r : ℕ) (M : Met ts xs hs ns n (getD ss f 0) r) (u : 0 < getD ss f 0 / 4294967296) where
     pub walked-met : (r ≡ 0 → ⊥) → walked? ts xs hs (placeAt (spotted ss) f) ≡ true

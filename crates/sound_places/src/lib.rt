@@ -2,8 +2,8 @@
 // Any columns may come in; chains must be those of the columns.
 ghost use mathlib.Core.Path.{_≡_};
 ghost use mathlib.Core.Bool.{true, _&&_};
-ghost use Prim.Native.Nat.{ℕ, _/_, _%_, _^_, _≤_, _<_, max};
-ghost use lib.Dec.{ltb, eqb};
+ghost use Prim.Native.Nat.{ℕ, _+_, _-_, _/_, _%_, _^_, _≤_, _<_, max};
+ghost use lib.Dec.{leb, ltb, eqb};
 ghost use lib.ListN.{drop, getD, length, replicate, take};
 ghost use Rattle.lists.specs.Test.{pick};
 ghost use Rattle.lists.specs.Every.{allBelow};
@@ -50,6 +50,19 @@ pub fn hit(tags: &[u64], spans: &[u64], k: usize, x: u64) -> usize
         }
     }
     0
+}
+
+// The same of the head of the chain of the spot's backing.
+pub fn at_head(tags: &[u64], spans: &[u64], heads: &[u16], x: u64) -> usize
+    requires { ⌜ (getD (now heads) (x / 4294967296 % 1024) 0 ≤ 512) × (length (now tags) ≡ 512) × (length (now spans) ≡ 512) × (length (now heads) ≡ 1024) ⌝ }
+    ensures { λ r. ⌜ Hit (now (tags .entry)) (now (spans .entry)) x (getD (now (heads .entry)) (x / 4294967296 % 1024) 0) r ⌝ }
+{
+    hit(
+        tags,
+        spans,
+        heads[(x / 4294967296 % 1024) as usize] as usize,
+        x,
+    )
 }
 
 // How many ranges begin at or before page g of the line, by halving: of use as a guess, so only its bound is promised.
@@ -118,9 +131,8 @@ fn begin_at(tags: &[u64], hint: usize, head: usize, x: u64) -> usize
     head
 }
 
-// A link to a range that has the spot x in its window, or 0 where there is none, the hint not being such a link. What is found near the hint is found; else the
-// chain is gone along from its head.
-fn searched(
+// A link to a range that has the spot x in its window, or 0 where there is none. What is found near the hint is found; else the chain is gone along from its head.
+pub fn searched(
     lines: &[u64],
     tags: &[u64],
     spans: &[u64],
@@ -148,8 +160,8 @@ fn searched(
     window_from(tags, spans, next, head, x)
 }
 
-// The same for any hint: frames of one backing often stand in one window.
-pub fn frame_window(
+// The same, with a look at the head of the chain first, which most often is enough.
+fn frame_window(
     lines: &[u64],
     tags: &[u64],
     spans: &[u64],
@@ -162,14 +174,32 @@ pub fn frame_window(
     requires { ⌜ Hinted (now tags) (now heads) (now next) count hint × Wide (now lines) (now tags) (now spans) (now heads) (now next) ⌝ }
     ensures { λ r. ⌜ Met (now (tags .entry)) (now (spans .entry)) (now (heads .entry)) (now (next .entry)) count x r ⌝ }
 {
-    let r = hit(tags, spans, hint, x);
+    let r = at_head(tags, spans, heads, x);
     if 0 < r {
         return r;
     }
     searched(lines, tags, spans, heads, next, count, hint, x)
 }
 
-// "Each vector entry lies in the window of some range that holds the vector." A free frame is no vector's entry.
+// The spots of the window of a range with this span, which has the spot x in it: from the first up to the last, and 0 if it reaches the next backing.
+fn window_start(x: u64, span: u64) -> u64
+    ensures { λ r. ⌜ r ≡ x - x % 4294967296 + span / 4294967296 ⌝ }
+{
+    x - x % 4294967296 + span / 4294967296
+}
+
+fn window_end(x: u64, span: u64) -> u64
+    ensures { λ r. ⌜ r ≡ pick (leb 4294967296 (span / 4294967296 + span % 4294967296)) 0 (x - x % 4294967296 + (span / 4294967296 + span % 4294967296)) ⌝ }
+{
+    let n = span / 4294967296 + span % 4294967296;
+    if 4294967296 <= n {
+        return 0;
+    }
+    x - x % 4294967296 + n
+}
+
+// "Each vector entry lies in the window of some range that holds the vector." A free frame is no vector's entry. The window that was found last, from spot `low` up
+// to `high`, is looked at first: frames of one backing often stand in one window.
 pub fn all_windows(
     spots: &[u64],
     frames: usize,
@@ -184,14 +214,19 @@ pub fn all_windows(
     ensures { λ q. ⌜ q ≡ allBelow (λ f. walked? (now (tags .entry)) (now (spans .entry)) (now (heads .entry)) (placeAt (spotted (now (spots .entry))) f)) frames ⌝ }
 {
     let mut hint: usize = 0;
+    let mut low: u64 = 0;
+    let mut high: u64 = 0;
     let mut f: usize = 0;
     while f < frames {
         let x = spots[f];
-        if 0 < x / 4294967296 {
+        if ((x < low) | (high <= x)) & (4294967296 <= x) {
             hint = frame_window(lines, tags, spans, heads, next, count, hint, x);
             if hint == 0 {
                 return false;
             }
+            let span = spans[hint - 1];
+            low = window_start(x, span);
+            high = window_end(x, span);
         }
         f += 1;
     }

@@ -39,7 +39,7 @@ fn window_of(
     requires { ⌜ (length (now sheet) ≡ 2579) × Long (now tags) (now spans) (now links) × Hinted (now tags) (take 1024 (now links)) (drop 1024 (now links)) count hint ⌝ }
     ensures { λ r. ⌜ Met (now (tags .entry)) (now (spans .entry)) (take 1024 (now (links .entry))) (drop 1024 (now (links .entry))) count x r ⌝ }
 {
-    sound_places::frame_window(
+    sound_places::searched(
         &sheet[0..512],
         tags,
         spans,
