@@ -17,7 +17,7 @@ use Rattle.lists.specs.Test.{and-left, by-test}
 use Rattle.lists.specs.Every.{allBelow, both-true, every}
 use Rattle.table.specs.Table.{numberOf, rangesOf, zeroRange}
 use Rattle.places.specs.Places.{placeAt}
-use Rattle.chains.specs.Chains.{Chained, Linked}
+use Rattle.chains.specs.Chains.{Chained}
 use Rattle.columns.specs.Columns.{spotOf, spots-done, spotted}
 use Rattle.columns.specs.Ranges.{Tag, Tags, Span, Spans, span-told, tag-many, tag-nothing, tag-single}
 use Rattle.sheet.specs.Sheet.{spanNumber, storeOf, tagOf, withCount, withFrames, withFree, withLive, withPlaces, withRanges}
@@ -123,10 +123,6 @@ pub record Told (s : Store) (w : List ℕ) : Type 0 where
   pub rows : Rows (s .ranges) 512 w
   pub spots : Spots (s .places) 1024 w
 
--- the links of the first n ranges of a sheet, behind their heads
-abbrev pub Links : List ℕ → ℕ → List ℕ → Type 0
-Links w n h = Linked (tagsOf w) n (drop 1024 h)
-
 -- the chains of the first n ranges of a sheet
 pub record Chains (w : List ℕ) (n : ℕ) (h : List ℕ) : Type 0 where
   pub long : length w ≡ 2579
@@ -147,11 +143,10 @@ resting? m n ws w h =
 unfoldable pub placed? : ℕ → ℕ → List ℕ → List ℕ → List ℕ → Bool
 placed? m n ws w h = allBelow (alone? (spotted (spotsOf w))) m && resting? m n ws w h
 
--- what the tests of a sheet say, the chains of its ranges being whatever they are
-pub record Tested (m n : ℕ) (ws w : List ℕ) (q : Bool) (l : List ℕ) : Type 0 where
-  pub holders : List ℕ
-  pub chains : Chained (tagsOf w) n (take 1024 holders) (drop 1024 holders)
-  pub answer : q ≡ (agreeing? w n && placed? m n ws w holders)
+-- what the tests of a sheet say
+pub record Tested (m n : ℕ) (ws w : List ℕ) (q : Bool) (h l : List ℕ) : Type 0 where
+  pub chains : agreeing? w n ≡ true → Chains w n h
+  pub answer : q ≡ (agreeing? w n && placed? m n ws w h)
   pub framed : q ≡ true → SpotChains (spotsOf w) m (take 1024 l) (drop 1024 l)
 
 -- a sound store in its sheet, with its frames chained
@@ -349,15 +344,16 @@ module _ (s : Store) where
         swap false true c = refl
         swap false false c = refl
 
-    pub examined : (q : Bool) (l : List ℕ) → counts? s ≡ true → slots? (s .live) (s .ranges) (s .count) 0 0 ≡ true → Tested (s .frames) (s .count) (s .free) w q l
-        → (q ≡ sound? s) × Sized s × (q ≡ true → Examined s w l)
-    examined q l h z E =
+    pub examined : (q : Bool) (hs l : List ℕ) → counts? s ≡ true → slots? (s .live) (s .ranges) (s .count) 0 0 ≡ true → Tested (s .frames) (s .count) (s .free) w q hs l
+        → (q ≡ sound? s) × Sized s × (q ≡ true → Examined s w l) × (q ≡ true → Chains w (s .count) hs)
+    examined q hs l h z E =
         let n = counts-says s h in (
           by-test (agreeing? w (s .count))
-              (λ e. sound-told s _ q h e (slots-agree z) (E .answer ∙ rw e (placed-told (E .holders) (E .chains))))
+              (λ e. sound-told s _ q h e (slots-agree z) (E .answer ∙ rw e (placed-told hs (E .chains e .chained))))
               (λ e. E .answer ∙ rw e (sound-ranges s _ h e (slots-agree z))),
           sizes,
           λ e. record { store = T .store; long = T .long; framed = sheet-framed s w T (s .frames) l (n .0) (E .framed e) },
+          λ e. E .chains (and-left (agreeing? w (s .count)) _ (sym (E .answer) ∙ e)),
         )
 
 -- ---- a store put into a sheet, part by part

@@ -8,7 +8,7 @@ ghost use lib.ListN.{drop, length, replicate, take};
 ghost use Rattle.store.specs.Sound.{counts?, sound?, Sized};
 ghost use Rattle.sound_places.specs.Alone.{SpotChains};
 ghost use Rattle.sound_ranges.specs.Slots.{slots?};
-ghost use Rattle.sound.specs.Parts.{agreeing?, placed?, resting?, Chains, Examined, Links, Numbered, Tested, Told, spotsOf};
+ghost use Rattle.sound.specs.Parts.{placed?, resting?, Chains, Examined, Numbered, Tested, Told, spotsOf};
 
 // "1 to 1,024 frames", "at most 512 ranges"
 pub fn counts(s: Store) -> bool
@@ -31,14 +31,6 @@ fn load(s: Store, sheet: &mut [u64; 2579]) -> bool
     sheet::load_places(sheet, places);
     let ranges = s.ranges;
     sound_ranges::load_ranges(ranges, s.count, s.live, sheet)
-}
-
-// "Ranges that hold one backing agree on its kind."
-fn agree(sheet: &[u64], holders: &[u16], count: usize) -> bool
-    requires { ⌜ (count ≤ 512) × (length (now sheet) ≡ 2579) × (length (now holders) ≡ 2048) × Links (now sheet) count (now holders) ⌝ }
-    ensures { λ q. ⌜ q ≡ agreeing? (now (sheet .entry)) count ⌝ }
-{
-    sound_ranges::all_agree(&sheet[1024..1536], &holders[1024..2048], count)
 }
 
 // The bits and the places of free frames; the frames of `Single` ranges; windows.
@@ -105,16 +97,15 @@ fn tests(
     links: &mut [u16; 2048],
 ) -> bool
     requires { ⌜ (frames ≤ 1024) × (count ≤ 512) × (length (now sheet) ≡ 2579) × ((i : ℕ) → i < count → Numbered (now sheet) i) × (now holders ≡ replicate 2048 0) × (now links ≡ replicate 2048 0) ⌝ }
-    ensures { λ q. ⌜ Tested frames count free (now (sheet .entry)) q (now (links .exit)) ⌝ }
+    ensures { λ q. ⌜ Tested frames count free (now (sheet .entry)) q (now (holders .exit)) (now (links .exit)) ⌝ }
 {
-    chains::link(&sheet[1024..1536], count, holders);
-    if agree(sheet, holders, count) {
+    if sound_ranges::chain_ranges(&sheet[1024..1536], count, holders) {
         return place_tests(sheet, count, frames, free, holders, links);
     }
     false
 }
 
-// "What a sound store is", as one test. A sound store is in the sheet then, and its frames are chained. The caller learns the lengths of the store's tables too.
+// "What a sound store is", as one test. A sound store is in the sheet then, and its ranges and frames are chained. The caller learns the lengths of the store's tables too.
 pub fn examine(
     s: Store,
     sheet: &mut [u64; 2579],
@@ -122,7 +113,7 @@ pub fn examine(
     links: &mut [u16; 2048],
 ) -> bool
     requires { ⌜ (length (now sheet) ≡ 2579) × (now holders ≡ replicate 2048 0) × (now links ≡ replicate 2048 0) ⌝ }
-    ensures { λ q. ⌜ (q ≡ sound? s) × Sized s × (q ≡ true → Examined s (now (sheet .exit)) (now (links .exit))) ⌝ }
+    ensures { λ q. ⌜ (q ≡ sound? s) × Sized s × (q ≡ true → Examined s (now (sheet .exit)) (now (links .exit))) × (q ≡ true → Chains (now (sheet .exit)) (s .count) (now (holders .exit))) ⌝ }
 {
     if counts(s) {
         if load(s, sheet) {

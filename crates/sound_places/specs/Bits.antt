@@ -1,14 +1,16 @@
 -- The tests of a frame's place and of its bit, made as one.
-use mathlib.Core.Path.{_≡_, refl, sym, _∙_}
-use mathlib.Core.Bool.{Bool, true, false, not, _&&_, _||_}
+use mathlib.Core.Path.{_≡_, refl, sym, ap, _∙_}
+use mathlib.Core.Bool.{Bool, true, false, not, _&&_, _||_, false≢true}
 use mathlib.Core.List.{List}
-use Prim.Native.Nat.{ℕ, zero, suc, _/_, _%_, _^_, _≤_, _<_}
+use Prim.Native.Nat.{ℕ, zero, suc, _+_, _-_, _*_, _/_, _%_, _^_, _≤_, _<_}
+use native.Mathlib.Nat.{div-div-eq-div-mul, pow-suc, zero-div}
+use native.Mathlib.Numerals.{add-one}
 use native.Mathlib.Omega.{arith}
 use lib.Dec.{eqb, leb, ltb}
 use lib.ListN.{getD}
 use borrow.Author.Tests.{eq-eqb, le-leb, le-ltb, lt-leb, lt-ltb, ne-eqb}
-use Rattle.lists.specs.Test.{by-eq}
-use Rattle.lists.specs.Every.{allBelow}
+use Rattle.lists.specs.Test.{by-eq, by-lt, by-test}
+use Rattle.lists.specs.Every.{allBelow, at-below, below-at}
 use Rattle.frames.specs.Free.{freeBit}
 use Rattle.places.specs.Places.{placeAt}
 use Rattle.columns.specs.Columns.{spot-at, spotOf, spotted}
@@ -73,8 +75,39 @@ module _ (n f x : ℕ) where
 abbrev pub kept? : ℕ → List ℕ → List ℕ → ℕ → Bool
 kept? n xs ws f = idle? n f (placeAt (spotted xs) f) && bit? n (spotted xs) ws f
 
-pub kept-at : (n : ℕ) (xs ws : List ℕ) (f : ℕ) (q : Bool)
-    → q ≡ (idle? n f (spotOf (getD xs f 0)) && same (eqb (getD ws (f / 64) 0 / 2 ^ (f % 64) % 2) 1) (ltb f n && eqb (getD xs f 0 / 4294967296) 0))
-    → kept? n xs ws f ≡ q
-unfolding freeBit
-kept-at n xs ws f q e = rw (spot-at xs f) (sym e)
+-- the next bit of a word
+pub bit-next : (x k : ℕ) → x / 2 ^ k / 2 ≡ x / 2 ^ (k + 1)
+bit-next x k = div-div-eq-div-mul x (2 ^ k) 2 ∙ ap (λ (n : ℕ). x / n) (sym (ap (λ (n : ℕ). 2 ^ n) (add-one k) ∙ pow-suc 2 k))
+
+-- the test of frame a + k, whose bit is bit k of the word w
+abbrev pub wordKept? : ℕ → List ℕ → ℕ → ℕ → ℕ → Bool
+wordKept? n xs w a k = idle? n (a + k) (spotOf (getD xs (a + k) 0)) && same (eqb (w / 2 ^ k % 2) 1) (ltb (a + k) n && eqb (getD xs (a + k) 0 / 4294967296) 0)
+
+-- no bit of the word is set
+pub word-used : (n : ℕ) (xs : List ℕ) (a k : ℕ) → a + k < n → wordKept? n xs 0 a k ≡ leb 4294967296 (getD xs (a + k) 0)
+word-used n xs a k h = rw (zero-div (2 ^ k)) (sym (bit-used n (a + k) (getD xs (a + k) 0) h))
+
+-- the frames of word i
+module _ (n : ℕ) (xs ws : List ℕ) (i : ℕ) where
+  kept-word : (k : ℕ) → k < 64 → wordKept? n xs (getD ws i 0) (i * 64) k ≡ kept? n xs ws (i * 64 + k)
+  unfolding freeBit
+  kept-word k h =
+      let d : (i * 64 + k) / 64 ≡ i = omega arith in
+      let m : (i * 64 + k) % 64 ≡ k = omega arith in
+      rw (spot-at xs (i * 64 + k), d, m)
+
+  pub words-next : allBelow (kept? n xs ws) (i * 64) ≡ true → allBelow (wordKept? n xs (getD ws i 0) (i * 64)) 64 ≡ true → allBelow (kept? n xs ws) ((i + 1) * 64) ≡ true
+  words-next p q =
+      at-below (kept? n xs ws) ((i + 1) * 64)
+      (λ f h. by-lt f (i * 64)
+      (λ l. below-at (kept? n xs ws) (i * 64) p f l)
+      (λ l.
+      let e : i * 64 + (f - i * 64) ≡ f = omega arith in
+      let b : f - i * 64 < 64 = omega arith in
+      sym (ap (kept? n xs ws) e) ∙ sym (kept-word (f - i * 64) b) ∙ below-at (wordKept? n xs (getD ws i 0) (i * 64)) 64 q (f - i * 64) b))
+
+  pub words-fail : i < 16 → allBelow (wordKept? n xs (getD ws i 0) (i * 64)) 64 ≡ false → false ≡ allBelow (kept? n xs ws) 1024
+  words-fail l q =
+      by-test (allBelow (kept? n xs ws) 1024)
+      (λ h. absurd (false≢true (sym q ∙ at-below (wordKept? n xs (getD ws i 0) (i * 64)) 64 (λ k b. kept-word k b ∙ below-at (kept? n xs ws) 1024 h (i * 64 + k) (omega arith)))))
+      (λ h. sym h)

@@ -8,10 +8,10 @@ use native.Mathlib.Omega.{arith}
 use lib.Dec.{eqb, leb, ltb}
 use lib.ListN.{getD, length, take}
 use lib.Seq.{take-suc}
-use borrow.Author.Tests.{eq-eqb, eqb-true, le-leb, le-ltb, leb-false, leb-true, lt-ltb, ne-eqb}
+use borrow.Author.Tests.{eq-eqb, eqb-true, le-leb, leb-false, lt-ltb, ne-eqb}
 use Rattle.table.specs.declared.PageRange.{PageRange}
 use Rattle.places.specs.declared.Place.{Place}
-use Rattle.lists.specs.Test.{pick, and-left, and-right, by-eq, by-lt, by-test}
+use Rattle.lists.specs.Test.{pick, and-left, by-eq, by-test}
 use Rattle.lists.specs.Every.{allBelow, below-fails}
 use Rattle.ranges.specs.Range.{Range}
 use Rattle.ranges.specs.Table.{named, window}
@@ -78,13 +78,6 @@ pub record Met (ts xs hs ns : List ℕ) (n x r : ℕ) : Type 0 where
 -- every spot from `low` up to `high` lies in a window
 pub record Seen (ts xs hs : List ℕ) (low high : ℕ) : Type 0 where
   pub met : (x : ℕ) → low ≤ x → x < high → allBelow (outsideAt ts xs x) (getD hs (x / 4294967296 % 1024) 0) ≡ false
-
--- whether a spot is to be looked for: not one that lies there, nor that of a free frame
-abbrev pub sought : ℕ → ℕ → ℕ → Bool
-sought low high x = (ltb x low || leb high x) && leb 4294967296 x
-
-pub sought-used : (low high x : ℕ) → sought low high x ≡ true → 0 < x / 4294967296
-sought-used low high x e = let l = leb-true 4294967296 x (and-right (ltb x low || leb high x) (leb 4294967296 x) e) in omega arith
 
 -- ---- a walk from link k on, which is at link j
 pub record Going (ts xs ns : List ℕ) (x k j : ℕ) : Type 0 where
@@ -154,6 +147,9 @@ module _ (ts xs hs ns : List ℕ) (n x hint : ℕ) (H : Hinted ts hs ns n hint) 
   pub met-hit : (k r : ℕ) → k ≤ n → Hit ts xs x k r → 0 < r → Met ts xs hs ns n x r
   met-hit k r l F h = let b = F .low in met r (omega arith) (λ z. absurd (omega arith)) (F .hit)
 
+  pub met-at-head : (r : ℕ) → Hit ts xs x (getD hs (x / 4294967296 % 1024) 0) r → (r ≡ 0 → ⊥) → Met ts xs hs ns n x r
+  met-at-head r F h = met-hit (getD hs (x / 4294967296 % 1024) 0) r head-low F (omega arith)
+
   pub met-head : (r : ℕ) → Found ts xs ns x (getD hs (x / 4294967296 % 1024) 0) r → Met ts xs hs ns n x r
   met-head r F =
       let b = F .low in
@@ -197,20 +193,10 @@ module _ (ts xs hs ss : List ℕ) (f : ℕ) where
       let e : getD ss f 0 / 4294967296 ≡ 0 = omega arith in
       ap (walked? ts xs hs) (spot-at ss f) ∙ rw (eq-eqb (getD ss f 0 / 4294967296) 0 e)
 
-  -- a frame that is not looked for: it stands in the window that was found last, or it is free
-  pub walked-seen : (low high : ℕ) → Seen ts xs hs low high → sought low high (getD ss f 0) ≡ false → walked? ts xs hs (placeAt (spotted ss) f) ≡ true
-  walked-seen low high S e =
-      by-lt x 4294967296
-      (λ u. walked-free (omega arith))
-      (λ u. by-lt x low
-      (λ o. absurd (false≢true (sym e ∙ rw (lt-ltb x low o, le-leb 4294967296 x u))))
-      (λ b. by-lt x high (λ l. seen b l) (λ o. absurd (false≢true (sym e ∙ rw (le-ltb x low b, le-leb high x o, le-leb 4294967296 x u))))))
-    where
-      x : ℕ
-      x = getD ss f 0
-
-      seen : low ≤ x → x < high → walked? ts xs hs (placeAt (spotted ss) f) ≡ true
-      seen b l = ap (walked? ts xs hs) (spot-at ss f) ∙ by-test (eqb (x / 4294967296) 0) (λ e. rw e) (λ e. rw (e, S .met x b l))
+  pub walked-seen : (low high : ℕ) → Seen ts xs hs low high → low ≤ getD ss f 0 → getD ss f 0 < high → walked? ts xs hs (placeAt (spotted ss) f) ≡ true
+  walked-seen low high S b l =
+      ap (walked? ts xs hs) (spot-at ss f)
+      ∙ by-test (eqb (getD ss f 0 / 4294967296) 0) (λ e. rw e) (λ e. rw (e, S .met (getD ss f 0) b l))
 
   module _ (ns : List ℕ) (n r : ℕ) (M : Met ts xs hs ns n (getD ss f 0) r) (u : 0 < getD ss f 0 / 4294967296) where
     pub walked-met : (r ≡ 0 → ⊥) → walked? ts xs hs (placeAt (spotted ss) f) ≡ true

@@ -2,7 +2,7 @@
 // Any columns may come in; chains must be those of the columns.
 ghost use mathlib.Core.Path.{_≡_};
 ghost use mathlib.Core.Bool.{true, _&&_};
-ghost use Prim.Native.Nat.{ℕ, _+_, _-_, _/_, _%_, _^_, _≤_, _<_, max};
+ghost use Prim.Native.Nat.{ℕ, _+_, _-_, _/_, _%_, _≤_, _<_, max};
 ghost use lib.Dec.{leb, ltb, eqb};
 ghost use lib.ListN.{drop, getD, length, replicate, take};
 ghost use Rattle.lists.specs.Test.{pick};
@@ -11,6 +11,7 @@ ghost use Rattle.places.specs.Places.{placeAt};
 ghost use Rattle.chains.specs.Walk.{Walk};
 ghost use Rattle.columns.specs.Columns.{spotOf, spotted};
 ghost use Rattle.sound_places.specs.Alone.{apartFrom, keyOf, SpotChains};
+ghost use Rattle.sound_places.specs.Bits.{wordKept?};
 ghost use Rattle.sound_places.specs.Windows.{walked?, windowIn, Falls, Found, Hinted, Hit, Met, Wide};
 ghost use Rattle.sound_places.specs.Seats.{seatedAt};
 ghost use Rattle.store.specs.Sound.{alone?, idle?, bit?, same, stands?};
@@ -160,27 +161,6 @@ pub fn searched(
     window_from(tags, spans, next, head, x)
 }
 
-// The same, with a look at the head of the chain first, which most often is enough.
-fn frame_window(
-    lines: &[u64],
-    tags: &[u64],
-    spans: &[u64],
-    heads: &[u16],
-    next: &[u16],
-    count: usize,
-    hint: usize,
-    x: u64,
-) -> usize
-    requires { ⌜ Hinted (now tags) (now heads) (now next) count hint × Wide (now lines) (now tags) (now spans) (now heads) (now next) ⌝ }
-    ensures { λ r. ⌜ Met (now (tags .entry)) (now (spans .entry)) (now (heads .entry)) (now (next .entry)) count x r ⌝ }
-{
-    let r = at_head(tags, spans, heads, x);
-    if 0 < r {
-        return r;
-    }
-    searched(lines, tags, spans, heads, next, count, hint, x)
-}
-
 // The spots of the window of a range with this span, which has the spot x in it: from the first up to the last, and 0 if it reaches the next backing.
 fn window_start(x: u64, span: u64) -> u64
     ensures { λ r. ⌜ r ≡ x - x % 4294967296 + span / 4294967296 ⌝ }
@@ -219,12 +199,20 @@ pub fn all_windows(
     let mut f: usize = 0;
     while f < frames {
         let x = spots[f];
-        if ((x < low) | (high <= x)) & (4294967296 <= x) {
-            hint = frame_window(lines, tags, spans, heads, next, count, hint, x);
-            if hint == 0 {
-                return false;
+        if (low <= x) & (x < high) {
+            f += 1;
+            continue;
+        }
+        if 0 < x / 4294967296 {
+            let mut r = at_head(tags, spans, heads, x);
+            if r == 0 {
+                r = searched(lines, tags, spans, heads, next, count, hint, x);
+                if r == 0 {
+                    return false;
+                }
             }
-            let span = spans[hint - 1];
+            let span = spans[r - 1];
+            hint = r;
             low = window_start(x, span);
             high = window_end(x, span);
         }
@@ -333,11 +321,10 @@ pub fn all_seated(
     true
 }
 
-// Whether a frame's bit, in its word of the map, is set exactly if the frame is free, and its spot is that of a frame of the store in use, or zero.
-pub fn bit(word: u64, x: u64, frames: usize, f: usize) -> bool
-    ensures { λ q. ⌜ q ≡ (idle? frames f (spotOf x) && same (eqb (word / 2 ^ (f % 64) % 2) 1) (ltb f frames && eqb (x / 4294967296) 0)) ⌝ }
+// Whether the bit of frame f is set exactly if the frame is free, and its spot x is that of a frame of the store in use, or zero.
+pub fn bit(set: bool, x: u64, frames: usize, f: usize) -> bool
+    ensures { λ q. ⌜ q ≡ (idle? frames f (spotOf x) && same set (ltb f frames && eqb (x / 4294967296) 0)) ⌝ }
 {
-    let set = (word >> (f % 64)) % 2 == 1;
     if f < frames {
         if set {
             return x == 0;
@@ -347,6 +334,44 @@ pub fn bit(word: u64, x: u64, frames: usize, f: usize) -> bool
     !set & (x == 0)
 }
 
+// Whether the 64 frames from `first` on are in use: the same where no bit is set.
+fn all_used(spots: &[u64], frames: usize, first: usize) -> bool
+    requires { ⌜ (first + 64 ≤ length (now spots)) × (first + 64 ≤ frames) ⌝ }
+    ensures { λ q. ⌜ q ≡ allBelow (wordKept? frames (now (spots .entry)) 0 first) 64 ⌝ }
+{
+    let mut k: usize = 0;
+    while k < 64 {
+        if spots[first + k] < 4294967296 {
+            return false;
+        }
+        k += 1;
+    }
+    true
+}
+
+// The same of the 64 frames from `first` on, whose bits are those of a word of the map, the lowest first.
+fn word_bits(word: u64, spots: &[u64], frames: usize, first: usize) -> bool
+    requires { ⌜ first + 64 ≤ length (now spots) ⌝ }
+    ensures { λ q. ⌜ q ≡ allBelow (wordKept? frames (now (spots .entry)) word first) 64 ⌝ }
+{
+    if word == 0 {
+        if first + 64 <= frames {
+            return all_used(spots, frames, first);
+        }
+    }
+    let mut w = word;
+    let mut k: usize = 0;
+    while k < 64 {
+        if bit(w % 2 == 1, spots[first + k], frames, first + k) {
+            w = w / 2;
+            k += 1;
+        } else {
+            return false;
+        }
+    }
+    true
+}
+
 // "a map of free frames, one bit each"; "bits of frames beyond the count are clear"; "unused slots are zero": the places of free frames and of frames
 // beyond the count.
 pub fn all_bits(free: [u64; 16], spots: &[u64], frames: usize) -> bool
@@ -354,9 +379,8 @@ pub fn all_bits(free: [u64; 16], spots: &[u64], frames: usize) -> bool
     ensures { λ q. ⌜ q ≡ allBelow (λ f. idle? frames f (placeAt (spotted (now (spots .entry))) f) && bit? frames (spotted (now (spots .entry))) free f) 1024 ⌝ }
 {
     let mut i: usize = 0;
-    while i < 1024 {
-        let w = free[i / 64];
-        if bit(w, spots[i], frames, i) {
+    while i < 16 {
+        if word_bits(free[i], spots, frames, i * 64) {
             i += 1;
         } else {
             return false;

@@ -24,10 +24,13 @@ shapedKind? r Nothing = false
 shapedKind? r (Single b) = ltb 0 b && (eqb (r .length) 1 && eqb (r .offset) 0)
 shapedKind? r (Many b) = ltb 0 b && leb (r .offset + r .length) 1048576
 
--- what `fine?` asks of the range alone
+-- what `fine?` asks of the range alone, whatever its object
+abbrev pub wellFormed? : PageRange → Bool
+wellFormed? r = leb 1 (r .length) && (leb (r .start .0 + r .length) 262144 && shapedKind? r (r .backing))
+
+-- what it asks of the range alone
 abbrev pub shaped? : ℕ → PageRange → Bool
-shaped? live r =
-    leb (r .object) 31 && (liveBit live (r .object) && (leb 1 (r .length) && (leb (r .start .0 + r .length) 262144 && shapedKind? r (r .backing))))
+shaped? live r = leb (r .object) 31 && (liveBit live (r .object) && wellFormed? r)
 
 -- each range is shaped, and begins at or after `low`, where the one before it ends
 unfoldable pub rises? : ℕ → ℕ → List PageRange → Bool

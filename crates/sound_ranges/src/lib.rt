@@ -5,14 +5,14 @@ ghost use mathlib.Core.Path.{_≡_};
 ghost use mathlib.Core.Bool.{true, _&&_};
 ghost use Prim.Native.Nat.{_+_, _≤_, _<_};
 ghost use lib.Dec.{leb};
-ghost use lib.ListN.{length, getD};
+ghost use lib.ListN.{drop, getD, length, replicate, take};
 ghost use Rattle.lists.specs.Every.{allBelow};
 ghost use Rattle.ranges.specs.Range.{from};
 ghost use Rattle.table.specs.Table.{rangeOf};
-ghost use Rattle.chains.specs.Chains.{Linked};
+ghost use Rattle.chains.specs.Chains.{Chained};
 ghost use Rattle.chains.specs.Walk.{Walk};
 ghost use Rattle.sound_ranges.specs.Agree.{alikeIn, alikeTo};
-ghost use Rattle.sound_ranges.specs.Shape.{shapedKind?, shaped?};
+ghost use Rattle.sound_ranges.specs.Shape.{wellFormed?, shapedKind?, shaped?};
 ghost use Rattle.sound_ranges.specs.Slots.{slot?, slots?, Loaded};
 ghost use Rattle.store.specs.Abs.{liveBit};
 ghost use Rattle.store.specs.Sound.{isNothing?, zero?};
@@ -47,7 +47,20 @@ pub fn ends_within(start: usize, length: u32) -> bool
     start + (length as usize) <= 262144
 }
 
-// "Each range belongs to a live object, has length at least 1, ends by page 262,144", and its backing is as it should be.
+// "has length at least 1, ends by page 262,144", and its backing is as it should be.
+pub fn well_formed(r: PageRange) -> bool
+    ensures { λ q. ⌜ q ≡ wellFormed? r ⌝ }
+{
+    if r.length == 0 {
+        return false;
+    }
+    if ends_within(r.start.0, r.length) {
+        return kind(r);
+    }
+    false
+}
+
+// "Each range belongs to a live object", and the same.
 pub fn shaped(r: PageRange, live: u32) -> bool
     ensures { λ q. ⌜ q ≡ shaped? live r ⌝ }
 {
@@ -55,10 +68,10 @@ pub fn shaped(r: PageRange, live: u32) -> bool
     if 31 < object {
         return false;
     }
-    let t = is_live(live, object);
-    let e = ends_within(r.start.0, r.length);
-    let k = kind(r);
-    t & ((1 <= r.length) & (e & k))
+    if is_live(live, object) {
+        return well_formed(r);
+    }
+    false
 }
 
 // The same, and it begins at or after page `low` of the line.
@@ -135,20 +148,21 @@ pub fn same_kind(x: u64, y: u64) -> bool
     (x < 4294967296) | ((y < 4294967296) | ((x == y) | (x % 4294967296 != y % 4294967296)))
 }
 
-// The backing of range i agrees with that of every range before it, where those agree: a walk along its chain to the first of its own backing.
-pub fn agrees(tags: &[u64], next: &[u16], i: usize) -> bool
-    requires { ⌜ (i < length (now tags)) × Walk (now next) (alikeTo (now tags) i) i (getD (now next) i 0) × (allBelow (λ j. allBelow (alikeTo (now tags) j) j) i ≡ true) × (length (now tags) ≤ length (now next)) × (length (now next) ≤ 1024) ⌝ }
+// The backing of range i agrees with that of every range before it, where those agree: a walk along its chain, whose links stand behind 1,024 heads, to the first
+// of its own backing.
+pub fn agrees(tags: &[u64], links: &[u16; 2048], i: usize) -> bool
+    requires { ⌜ (i < length (now tags)) × Walk (drop 1024 (now links)) (alikeTo (now tags) i) i (getD (drop 1024 (now links)) i 0) × (allBelow (λ j. allBelow (alikeTo (now tags) j) j) i ≡ true) × (length (now tags) ≤ 1024) ⌝ }
     ensures { λ q. ⌜ q ≡ allBelow (alikeTo (now (tags .entry)) i) i ⌝ }
 {
     let y = tags[i];
-    let mut k = next[i] as usize;
+    let mut k = links[1024 + i] as usize;
     while 0 < k {
         let x = tags[k - 1];
         if x == y {
             return true;
         }
         if same_kind(x, y) {
-            k = next[k - 1] as usize;
+            k = links[1024 + (k - 1)] as usize;
         } else {
             return false;
         }
@@ -156,14 +170,17 @@ pub fn agrees(tags: &[u64], next: &[u16], i: usize) -> bool
     true
 }
 
-// "Ranges that hold one backing agree on its kind."
-pub fn all_agree(tags: &[u64], next: &[u16], count: usize) -> bool
-    requires { ⌜ (count ≤ length (now tags)) × (Linked (now tags) count (now next)) × (length (now tags) ≤ length (now next)) × (length (now next) ≤ 1024) ⌝ }
-    ensures { λ q. ⌜ q ≡ allBelow (λ i. allBelow (alikeTo (now (tags .entry)) i) i) count ⌝ }
+// "Ranges that hold one backing agree on its kind." Ranges are chained by their backings on the way, each compared with those of its chain before it.
+pub fn chain_ranges(tags: &[u64], count: usize, links: &mut [u16; 2048]) -> bool
+    requires { ⌜ (count ≤ length (now tags)) × (length (now tags) ≤ 1024) × (now links ≡ replicate 2048 0) ⌝ }
+    ensures { λ q. ⌜ (q ≡ allBelow (λ i. allBelow (alikeTo (now (tags .entry)) i) i) count) × (q ≡ true → Chained (now (tags .entry)) count (take 1024 (now (links .exit))) (drop 1024 (now (links .exit)))) × (length (now (links .exit)) ≡ 2048) ⌝ }
 {
     let mut i: usize = 0;
     while i < count {
-        if agrees(tags, next, i) {
+        let h = (tags[i] % 1024) as usize;
+        links[1024 + i] = links[h];
+        links[h] = (i as u16) + 1;
+        if agrees(tags, links, i) {
             i += 1;
         } else {
             return false;

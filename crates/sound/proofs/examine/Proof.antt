@@ -38,7 +38,7 @@ returns c =
     let h = sym (c .before .before .before .before .before .before .before .before .before .before .counts .ensures) ∙ c .before .before .before .before .before .before .before .before .before .if1 .taken in
     let r = c .before .before .before .before .before .before .before .load .ensures in
     let t = c .before .before .before .before .before .before .if2 .taken in
-    examined s _ (r .1 t) z (counts-says s h .1) _ _ h (sym (r .0) ∙ t) (c .tests .ensures)
+    examined s _ (r .1 t) z (counts-says s h .1) _ _ _ h (sym (r .0) ∙ t) (c .tests .ensures)
 
 returns-2 : tie.Need-returns-2
 returns-2 c =
@@ -48,7 +48,7 @@ returns-2 c =
     let z : Sized s = record { ranges = w; places = v; free = search needs } in
     let h = sym (c .before .before .before .before .counts .ensures) ∙ c .before .before .before .if1 .taken in
     let r = c .before .load .ensures in
-    (sound-ranges s _ h refl (slots-none s (sym (r .0) ∙ c .if2 .left)), z, λ e. absurd (false≢true e))
+    (sound-ranges s _ h refl (slots-none s (sym (r .0) ∙ c .if2 .left)), z, λ e. absurd (false≢true e), λ e. absurd (false≢true e))
 
 returns-3 : tie.Need-returns-3
 returns-3 c =
@@ -56,7 +56,7 @@ returns-3 c =
     let w : length (s .ranges) ≡ 512 = simp length-map at (c .before .before .good .0 .1 .1 .1 .1 .1 .0 .1 .0 .1) in
     let v : length (s .places) ≡ 1024 = simp length-map at (c .before .before .good .0 .1 .1 .1 .1 .1 .1 .0 .1 .0 .1) in
     let z : Sized s = record { ranges = w; places = v; free = search needs } in
-    (sound-none s (sym (c .before .counts .ensures) ∙ c .if1 .left), z, λ e. absurd (false≢true e))
+    (sound-none s (sym (c .before .counts .ensures) ∙ c .if1 .left), z, λ e. absurd (false≢true e), λ e. absurd (false≢true e))
 
 pub examine-spec : {M : Type 1} → statement M
 examine-spec =

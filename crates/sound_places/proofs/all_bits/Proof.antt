@@ -1,36 +1,34 @@
--- `sound_places::all_bits` meets its contract. The loop's invariant: the frames below `i` pass. The measure is the number of frames left.
-use mathlib.Core.Path.{_≡_, _∙_}
+-- `sound_places::all_bits` meets its contract. The loop's invariant: the frames of the words below `i` pass. The measure is the number of words left.
+use mathlib.Core.Path.{_≡_, sym, _∙_}
 use mathlib.Core.Bool.{true}
-use Prim.Native.Nat.{_-_, _≤_}
+use Prim.Native.Nat.{_-_, _*_, _≤_}
+use Rattle.lists.specs.Every.{allBelow, below-done, below-zero}
+use Rattle.sound_places.specs.Bits.{kept?, words-fail, words-next}
 use borrow.Author.Needs.{needs}
-use Rattle.lists.specs.Every.{allBelow, below-done, below-fails, below-next, below-zero}
-use Rattle.sound_places.specs.Bits.{kept-at, kept?}
+use native.Mathlib.Omega.{arith}
 use Rattle.sound_places.proofs.all_bits.Statement.{statement}
 use Rattle.sound_places.proofs.all_bits.Tie as tie
 
 abbrev Inv-loop : tie.InvT-loop
-Inv-loop spots frames free i₀ i = (i ≤ 1024) × (allBelow (kept? frames spots free) i ≡ true)
+Inv-loop spots frames free i₀ i = (i ≤ 16) × (allBelow (kept? frames spots free) (i * 64) ≡ true)
 
 abbrev μ-loop : tie.MeasureT-loop
-μ-loop spots frames free i₀ i = 1024 - i
+μ-loop spots frames free i₀ i = 16 - i
 
 loop-holds : tie.Need-loop-holds Inv-loop μ-loop
 loop-holds c = let a = c .before .args in (search needs, below-zero (kept? (a .frames) (a .spots .now) (a .t1)))
 
-mul-w : tie.Need-mul-w Inv-loop μ-loop
-mul-w c = search needs
+mul-word-bits : tie.Need-mul-word-bits Inv-loop μ-loop
+mul-word-bits c = search needs
 
-array-read-w : tie.Need-array-read-w Inv-loop μ-loop
-array-read-w c = search needs
+array-read-word-bits : tie.Need-array-read-word-bits Inv-loop μ-loop
+array-read-word-bits c = search needs
 
-mul-bit : tie.Need-mul-bit Inv-loop μ-loop
-mul-bit c = search needs
+mul-word-bits-2 : tie.Need-mul-word-bits-2 Inv-loop μ-loop
+mul-word-bits-2 c = search needs
 
-shared-slice-read-bit : tie.Need-shared-slice-read-bit Inv-loop μ-loop
-shared-slice-read-bit c = search needs
-
-bit-requires : tie.Need-bit-requires Inv-loop μ-loop
-bit-requires c κs = search needs
+word-bits-requires : tie.Need-word-bits-requires Inv-loop μ-loop
+word-bits-requires c κs = search needs
 
 add-i : tie.Need-add-i Inv-loop μ-loop
 add-i c = search needs
@@ -40,25 +38,21 @@ loop-less c = search needs
 
 loop-again : tie.Need-loop-again Inv-loop μ-loop
 loop-again c =
-    let a = c .before .before .before .before .before .before .args in
-    let l = c .before .before .before .before .loop in
-    let b = c .before .bit in
-    let t = kept-at (a .frames) (a .spots .now) (a .t1) (l .i) (b .result) (b .ensures) ∙ c .if1 .taken in
-    (search needs, below-next (kept? (a .frames) (a .spots .now) (a .t1)) (l .i) (l .inv .1) t)
+    let a = c .before .before .before .before .before .args in
+    let l = c .before .before .before .loop in
+    (search needs, words-next (a .frames) (a .spots .now) (a .t1) (l .i) (l .inv .1) (sym (c .before .word-bits .ensures) ∙ c .if1 .taken))
 
 returns : tie.Need-returns Inv-loop μ-loop
 returns c =
-    let a = c .before .before .before .before .before .before .args in
-    let l = c .before .before .before .before .loop in
-    let b = c .before .bit in
-    let t = kept-at (a .frames) (a .spots .now) (a .t1) (l .i) (b .result) (b .ensures) ∙ c .if1 .left in
-    below-fails (kept? (a .frames) (a .spots .now) (a .t1)) 1024 (l .i) (search needs) t
+    let a = c .before .before .before .before .before .args in
+    let l = c .before .before .before .loop in
+    words-fail (a .frames) (a .spots .now) (a .t1) (l .i) (search needs) (sym (c .before .word-bits .ensures) ∙ c .if1 .left)
 
 returns-2 : tie.Need-returns-2 Inv-loop μ-loop
 returns-2 c =
     let a = c .before .before .before .args in
     let l = c .before .loop in
-    below-done (kept? (a .frames) (a .spots .now) (a .t1)) 1024 (l .i) (l .inv .1) (search needs) (search needs)
+    below-done (kept? (a .frames) (a .spots .now) (a .t1)) 1024 (l .i * 64) (l .inv .1) (omega arith) (omega arith)
 
 pub all-bits-spec : {M : Type 1} → statement M
 all-bits-spec =
@@ -67,11 +61,10 @@ all-bits-spec =
     Inv-loop
     μ-loop
     loop-holds
-    mul-w
-    array-read-w
-    mul-bit
-    shared-slice-read-bit
-    bit-requires
+    mul-word-bits
+    array-read-word-bits
+    mul-word-bits-2
+    word-bits-requires
     add-i
     loop-less
     loop-again

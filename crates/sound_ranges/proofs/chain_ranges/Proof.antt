@@ -1,0 +1,122 @@
+-- `sound_ranges::chain_ranges` meets its contract. The loop's invariant: the ranges below `i` pass, and are chained. The measure is the number of ranges left.
+use mathlib.Core.Path.{_≡_, refl, sym, _∙_}
+use mathlib.Core.Bool.{true, false≢true}
+use Prim.Native.Nat.{_-_, _+_, _≤_}
+use native.Mathlib.Omega.{arith}
+use lib.ListN.{drop, length, length-set, take}
+use borrow.Author.Needs.{needs}
+use Rattle.lists.specs.Every.{allBelow, below-done, below-fails, below-next, below-zero}
+use Rattle.chains.specs.Chains.{Chained, linked-next, linked-none}
+use Rattle.sound_ranges.specs.Agree.{alikeTo, walk-agree}
+use Rattle.sound_ranges.proofs.chain_ranges.Statement.{statement}
+use Rattle.sound_ranges.proofs.chain_ranges.Tie as tie
+
+abbrev Inv-loop : tie.InvT-loop
+Inv-loop tags count links₀ i₀ links i = (i ≤ count) × (length links ≡ 2048) × Chained tags i (take 1024 links) (drop 1024 links) × (allBelow (λ j. allBelow (alikeTo tags j) j) i ≡ true)
+
+abbrev μ-loop : tie.MeasureT-loop
+μ-loop tags count links₀ i₀ links i = count - i
+
+loop-holds : tie.Need-loop-holds Inv-loop μ-loop
+loop-holds c =
+    let a = c .before .args in
+    (search needs, rw (c .before .pre .2) (search needs), rw (c .before .pre .2) (linked-none (a .tags .now)), below-zero (λ j. allBelow (alikeTo (a .tags .now) j) j))
+
+mul-h : tie.Need-mul-h Inv-loop μ-loop
+mul-h c = search needs
+
+shared-slice-read-h : tie.Need-shared-slice-read-h Inv-loop μ-loop
+shared-slice-read-h c = search needs
+
+mul-links : tie.Need-mul-links Inv-loop μ-loop
+mul-links c = search needs
+
+element-copy-out-links : tie.Need-element-copy-out-links Inv-loop μ-loop
+element-copy-out-links c = search needs
+
+add-links : tie.Need-add-links Inv-loop μ-loop
+add-links c = search needs
+
+mul-links-2 : tie.Need-mul-links-2 Inv-loop μ-loop
+mul-links-2 c = search needs
+
+element-write-links : tie.Need-element-write-links Inv-loop μ-loop
+element-write-links c = search needs
+
+cast-links : tie.Need-cast-links Inv-loop μ-loop
+cast-links c = search needs
+
+add-links-2 : tie.Need-add-links-2 Inv-loop μ-loop
+add-links-2 c = search needs
+
+mul-links-3 : tie.Need-mul-links-3 Inv-loop μ-loop
+mul-links-3 c = search needs
+
+element-write-links-2 : tie.Need-element-write-links-2 Inv-loop μ-loop
+element-write-links-2 c = search needs
+
+agrees-requires : tie.Need-agrees-requires Inv-loop μ-loop
+agrees-requires c κs =
+    let a = c .before .before .before .before .before .before .args in
+    let q = c .before .before .before .before .before .before .pre in
+    let l = c .before .before .before .before .loop in
+    let C = linked-next (a .tags .now) (l .links) (l .i) _ (l .inv .1) (omega (arith, q .0, q .1)) refl (l .inv .2) in
+    (omega (arith, q .0), walk-agree (a .tags .now) _ (l .i + 1) (l .i) (C .next) (omega arith), l .inv .3, q .1)
+
+add-i : tie.Need-add-i Inv-loop μ-loop
+add-i c = search needs
+
+loop-less : tie.Need-loop-less Inv-loop μ-loop
+loop-less c = search needs
+
+loop-again : tie.Need-loop-again Inv-loop μ-loop
+loop-again c =
+    let a = c .before .before .before .before .before .before .before .before .args in
+    let q = c .before .before .before .before .before .before .before .before .pre in
+    let l = c .before .before .before .before .before .before .loop in (
+      search needs,
+      simp length-set (l .inv .1),
+      linked-next (a .tags .now) (l .links) (l .i) _ (l .inv .1) (omega (arith, q .0, q .1)) refl (l .inv .2),
+      below-next (λ j. allBelow (alikeTo (a .tags .now) j) j) (l .i) (l .inv .3) (sym (c .before .agrees .ensures) ∙ c .if1 .taken),
+    )
+
+returns : tie.Need-returns Inv-loop μ-loop
+returns c =
+    let a = c .before .before .before .before .before .before .before .before .args in
+    let l = c .before .before .before .before .before .before .loop in (
+      below-fails (λ j. allBelow (alikeTo (a .tags .now) j) j) (a .count) (l .i) (search needs) (sym (c .before .agrees .ensures) ∙ c .if1 .left),
+      λ e. absurd (false≢true e),
+      simp length-set (l .inv .1),
+    )
+
+returns-2 : tie.Need-returns-2 Inv-loop μ-loop
+returns-2 c =
+    let a = c .before .before .before .args in
+    let l = c .before .loop in
+    let e : l .i ≡ a .count = omega arith in
+    (below-done (λ j. allBelow (alikeTo (a .tags .now) j) j) (a .count) (l .i) (l .inv .3) (search needs) (search needs), λ _. rw e at (l .inv .2), l .inv .1)
+
+pub chain-ranges-spec : {M : Type 1} → statement M
+chain-ranges-spec =
+    tie.close
+    (tie.spec
+    Inv-loop
+    μ-loop
+    loop-holds
+    mul-h
+    shared-slice-read-h
+    mul-links
+    element-copy-out-links
+    add-links
+    mul-links-2
+    element-write-links
+    cast-links
+    add-links-2
+    mul-links-3
+    element-write-links-2
+    agrees-requires
+    add-i
+    loop-less
+    loop-again
+    returns
+    returns-2)
