@@ -48,7 +48,7 @@ not-above j g a h =
     let e2 : 2 ^ suc j ≡ 2 ^ j * 2 = pow-suc 2 j in
     rw (x, high (m - q) g l) (omega arith)
 
-not-bit : (a g : ℕ) → a < 2 ^ 64 → g < 64 → (2 ^ 64 - 1 - a) / 2 ^ g % 2 ≡ 1 - a / 2 ^ g % 2
+pub not-bit : (a g : ℕ) → a < 2 ^ 64 → g < 64 → (2 ^ 64 - 1 - a) / 2 ^ g % 2 ≡ 1 - a / 2 ^ g % 2
 not-bit a g h l = go (63 - g) (omega arith)
   where
     go : (j : ℕ) → suc j + g ≡ 64 → (2 ^ 64 - 1 - a) / 2 ^ g % 2 ≡ 1 - a / 2 ^ g % 2

@@ -12,6 +12,7 @@ use borrow.Author.Tests.{eq-eqb, le-leb, le-ltb, lt-leb, lt-ltb, ne-eqb}
 use Rattle.lists.specs.Test.{by-eq, by-lt, by-test}
 use Rattle.lists.specs.Every.{allBelow, at-below, below-at}
 use Rattle.frames.specs.Free.{freeBit}
+use Rattle.frames.specs.Bits.{not-bit}
 use Rattle.places.specs.Places.{placeAt}
 use Rattle.columns.specs.Columns.{spot-at, spotOf, spotted}
 use Rattle.store.specs.Sound.{bit?, idle?, same}
@@ -86,6 +87,13 @@ wordKept? n xs w a k = idle? n (a + k) (spotOf (getD xs (a + k) 0)) && same (eqb
 -- no bit of the word is set
 pub word-used : (n : ℕ) (xs : List ℕ) (a k : ℕ) → a + k < n → wordKept? n xs 0 a k ≡ leb 4294967296 (getD xs (a + k) 0)
 word-used n xs a k h = rw (zero-div (2 ^ k)) (sym (bit-used n (a + k) (getD xs (a + k) 0) h))
+
+-- all bits of the word are set
+pub word-free : (n : ℕ) (xs : List ℕ) (a k : ℕ) → k < 64 → a + k < n → wordKept? n xs 18446744073709551615 a k ≡ eqb (getD xs (a + k) 0) 0
+word-free n xs a k l h = rw (full k l) (sym (bit-free n (a + k) (getD xs (a + k) 0) h))
+  where
+    full : (k : ℕ) → k < 64 → 18446744073709551615 / 2 ^ k % 2 ≡ 1
+    full k l = not-bit 0 k (omega arith) l ∙ rw (zero-div (2 ^ k))
 
 -- the frames of word i
 module _ (n : ℕ) (xs ws : List ℕ) (i : ℕ) where

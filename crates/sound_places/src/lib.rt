@@ -349,6 +349,21 @@ fn all_used(spots: &[u64], frames: usize, first: usize) -> bool
     true
 }
 
+// Whether the 64 frames from `first` on are free: the same where all bits are set.
+fn all_free(spots: &[u64], frames: usize, first: usize) -> bool
+    requires { ⌜ (first + 64 ≤ length (now spots)) × (first + 64 ≤ frames) ⌝ }
+    ensures { λ q. ⌜ q ≡ allBelow (wordKept? frames (now (spots .entry)) 18446744073709551615 first) 64 ⌝ }
+{
+    let mut k: usize = 0;
+    while k < 64 {
+        if 0 < spots[first + k] {
+            return false;
+        }
+        k += 1;
+    }
+    true
+}
+
 // The same of the 64 frames from `first` on, whose bits are those of a word of the map, the lowest first.
 fn word_bits(word: u64, spots: &[u64], frames: usize, first: usize) -> bool
     requires { ⌜ first + 64 ≤ length (now spots) ⌝ }
@@ -357,6 +372,11 @@ fn word_bits(word: u64, spots: &[u64], frames: usize, first: usize) -> bool
     if word == 0 {
         if first + 64 <= frames {
             return all_used(spots, frames, first);
+        }
+    }
+    if word == 18446744073709551615 {
+        if first + 64 <= frames {
+            return all_free(spots, frames, first);
         }
     }
     let mut w = word;

@@ -26,9 +26,18 @@ all-used-requires c κs = search needs
 returns : tie.Need-returns Inv-loop μ-loop
 returns c = rw (c .before .before .if1 .taken) (c .all-used .ensures)
 
+add-if4 : tie.Need-add-if4 Inv-loop μ-loop
+add-if4 c = search needs
+
+all-free-requires : tie.Need-all-free-requires Inv-loop μ-loop
+all-free-requires c κs = search needs
+
+returns-2 : tie.Need-returns-2 Inv-loop μ-loop
+returns-2 c = rw (c .before .before .if3 .taken) (c .all-free .ensures)
+
 loop-holds : tie.Need-loop-holds Inv-loop μ-loop
 loop-holds c =
-    let a = c .before .before .args in
+    let a = c .before .before .before .args in
     (search needs, sym (div-one (a .word)), below-zero (wordKept? (a .frames) (a .spots .now) (a .word) (a .first)))
 
 add-bit : tie.Need-add-bit Inv-loop μ-loop
@@ -54,23 +63,23 @@ loop-less c = search needs
 
 loop-again : tie.Need-loop-again Inv-loop μ-loop
 loop-again c =
-    let a = c .before .before .before .before .before .before .before .args in
+    let a = c .before .before .before .before .before .before .before .before .args in
     let l = c .before .before .before .before .loop in
     let e : l .w ≡ a .word / 2 ^ (l .k) = l .inv .1 in
-    let t : wordKept? (a .frames) (a .spots .now) (a .word) (a .first) (l .k) ≡ true = rw (← e) (sym (c .before .bit .ensures) ∙ c .if3 .taken) in
+    let t : wordKept? (a .frames) (a .spots .now) (a .word) (a .first) (l .k) ≡ true = rw (← e) (sym (c .before .bit .ensures) ∙ c .if5 .taken) in
     (search needs, ap (λ (x : ℕ). x / 2) e ∙ bit-next (a .word) (l .k), below-next (wordKept? (a .frames) (a .spots .now) (a .word) (a .first)) (l .k) (l .inv .2) t)
-
-returns-2 : tie.Need-returns-2 Inv-loop μ-loop
-returns-2 c =
-    let a = c .before .before .before .before .before .before .before .args in
-    let l = c .before .before .before .before .loop in
-    let e : l .w ≡ a .word / 2 ^ (l .k) = l .inv .1 in
-    let t : wordKept? (a .frames) (a .spots .now) (a .word) (a .first) (l .k) ≡ false = rw (← e) (sym (c .before .bit .ensures) ∙ c .if3 .left) in
-    below-fails (wordKept? (a .frames) (a .spots .now) (a .word) (a .first)) 64 (l .k) (search needs) t
 
 returns-3 : tie.Need-returns-3 Inv-loop μ-loop
 returns-3 c =
-    let a = c .before .before .before .before .args in
+    let a = c .before .before .before .before .before .before .before .before .args in
+    let l = c .before .before .before .before .loop in
+    let e : l .w ≡ a .word / 2 ^ (l .k) = l .inv .1 in
+    let t : wordKept? (a .frames) (a .spots .now) (a .word) (a .first) (l .k) ≡ false = rw (← e) (sym (c .before .bit .ensures) ∙ c .if5 .left) in
+    below-fails (wordKept? (a .frames) (a .spots .now) (a .word) (a .first)) 64 (l .k) (search needs) t
+
+returns-4 : tie.Need-returns-4 Inv-loop μ-loop
+returns-4 c =
+    let a = c .before .before .before .before .before .args in
     let l = c .before .loop in
     below-done (wordKept? (a .frames) (a .spots .now) (a .word) (a .first)) 64 (l .k) (l .inv .2) (search needs) (search needs)
 
@@ -83,6 +92,9 @@ word-bits-spec =
     add-if2
     all-used-requires
     returns
+    add-if4
+    all-free-requires
+    returns-2
     loop-holds
     add-bit
     mul-bit
@@ -92,5 +104,5 @@ word-bits-spec =
     add-k
     loop-less
     loop-again
-    returns-2
-    returns-3)
+    returns-3
+    returns-4)

@@ -1,0 +1,74 @@
+-- `sound_places::all_free` meets its contract. The loop's invariant: the first `k` frames pass. The measure is the number of frames left.
+use mathlib.Core.Path.{_≡_, _∙_}
+use mathlib.Core.Bool.{true}
+use Prim.Native.Nat.{_+_, _-_, _≤_, _<_}
+use lib.ListN.{getD}
+use borrow.Author.Tests.{eq-eqb, ne-eqb}
+use Rattle.lists.specs.Every.{allBelow, below-done, below-fails, below-next, below-zero}
+use Rattle.sound_places.specs.Bits.{word-free, wordKept?}
+use borrow.Author.Needs.{needs}
+use native.Mathlib.Omega.{arith}
+use Rattle.sound_places.proofs.all_free.Statement.{statement}
+use Rattle.sound_places.proofs.all_free.Tie as tie
+
+abbrev Inv-loop : tie.InvT-loop
+Inv-loop spots frames first k₀ k = (k ≤ 64) × (allBelow (wordKept? frames spots 18446744073709551615 first) k ≡ true)
+
+abbrev μ-loop : tie.MeasureT-loop
+μ-loop spots frames first k₀ k = 64 - k
+
+loop-holds : tie.Need-loop-holds Inv-loop μ-loop
+loop-holds c = (search needs, below-zero (wordKept? (c .args .frames) (c .args .spots .now) 18446744073709551615 (c .args .first)))
+
+add-if1 : tie.Need-add-if1 Inv-loop μ-loop
+add-if1 c = search needs
+
+mul-if1 : tie.Need-mul-if1 Inv-loop μ-loop
+mul-if1 c = search needs
+
+shared-slice-read-if1 : tie.Need-shared-slice-read-if1 Inv-loop μ-loop
+shared-slice-read-if1 c = search needs
+
+returns : tie.Need-returns Inv-loop μ-loop
+returns c =
+    let a = c .before .before .before .before .args in
+    let q = c .before .before .before .before .pre in
+    let l = c .before .before .before .loop in
+    let t = word-free (a .frames) (a .spots .now) (a .first) (l .k) (search needs) (omega (arith, q .1)) ∙ ne-eqb (getD (a .spots .now) (a .first + l .k) 0) 0 (λ e. let h : 0 < getD (a .spots .now) (a .first + l .k) 0 = c .if1 .taken in omega arith) in
+    below-fails (wordKept? (a .frames) (a .spots .now) 18446744073709551615 (a .first)) 64 (l .k) (search needs) t
+
+add-k : tie.Need-add-k Inv-loop μ-loop
+add-k c = search needs
+
+loop-less : tie.Need-loop-less Inv-loop μ-loop
+loop-less c = search needs
+
+loop-again : tie.Need-loop-again Inv-loop μ-loop
+loop-again c =
+    let a = c .before .before .before .before .args in
+    let q = c .before .before .before .before .pre in
+    let l = c .before .before .before .loop in
+    let t = word-free (a .frames) (a .spots .now) (a .first) (l .k) (search needs) (omega (arith, q .1)) ∙ eq-eqb (getD (a .spots .now) (a .first + l .k) 0) 0 (let h : getD (a .spots .now) (a .first + l .k) 0 ≤ 0 = c .if1 .left in omega arith) in
+    (search needs, below-next (wordKept? (a .frames) (a .spots .now) 18446744073709551615 (a .first)) (l .k) (l .inv .1) t)
+
+returns-2 : tie.Need-returns-2 Inv-loop μ-loop
+returns-2 c =
+    let a = c .before .before .args in
+    let l = c .before .loop in
+    below-done (wordKept? (a .frames) (a .spots .now) 18446744073709551615 (a .first)) 64 (l .k) (l .inv .1) (search needs) (search needs)
+
+pub all-free-spec : {M : Type 1} → statement M
+all-free-spec =
+    tie.close
+    (tie.spec
+    Inv-loop
+    μ-loop
+    loop-holds
+    add-if1
+    mul-if1
+    shared-slice-read-if1
+    returns
+    add-k
+    loop-less
+    loop-again
+    returns-2)
