@@ -17,6 +17,7 @@ ghost use Rattle.writes.specs.Written.{Room};
 ghost use Rattle.writes.specs.Going.{Going};
 ghost use Rattle.sheet.specs.Sheet.{storeOf};
 ghost use Rattle.seek.specs.Framed.{Charted};
+ghost use Rattle.seek.specs.Held.{Held};
 
 // n bytes from place k of page g of the line, stored in buf from index at. "Absent bytes read as zero."
 pub fn read_page(
@@ -69,6 +70,7 @@ pub fn read_pages(
 // written, and the answer is no.
 pub fn overwrite_page(
     sheet: &[u64; 2579],
+    holders: &[u16; 2048],
     links: &[u16; 2048],
     pool: &mut [u8],
     object: u32,
@@ -77,12 +79,12 @@ pub fn overwrite_page(
     from: usize,
     m: usize,
 ) -> bool
-    requires { ⌜ (Charted (now sheet) (now links)) × (Inside (storeOf (now sheet)) (now pool)) × (offset < 1073741824) × (offset % 4096 + m ≤ 4096) × (from + m ≤ length (now src)) ⌝ }
+    requires { ⌜ (Charted (now sheet) (now links)) × (Inside (storeOf (now sheet)) (now pool)) × (offset < 1073741824) × (offset % 4096 + m ≤ 4096) × (from + m ≤ length (now src)) × (Held (now sheet) (now holders)) ⌝ }
     ensures { λ q. ⌜ (q ≡ true → Wrote (storeOf (now (sheet .entry))) (now (pool .entry)) object (offset / 4096) (over (offset % 4096) (take m (drop from (now (src .entry))))) (storeOf (now (sheet .entry))) (now (pool .exit))) × (q ≡ false → now (pool .exit) ≡ now (pool .entry)) ⌝ }
 {
     let page = PageNumber::from_offset(offset);
     let g = table::line_of(object, page);
-    match seek::private_frame(sheet, links, g) {
+    match seek::private_frame(sheet, holders, links, g) {
         Frame::At(f) => {
             let at = f * PageNumber::PAGE_SIZE + PageNumber::place(offset);
             pool::copy_in(pool, at, src, from, m);
@@ -95,13 +97,14 @@ pub fn overwrite_page(
 // The bytes of src written from `offset` on as far as the pages are present and private, so that the store stays: how many bytes are written.
 pub fn overwrite_pages(
     sheet: &[u64; 2579],
+    holders: &[u16; 2048],
     links: &[u16; 2048],
     pool: &mut [u8],
     object: u32,
     offset: usize,
     src: &[u8],
 ) -> usize
-    requires { ⌜ (Charted (now sheet) (now links)) × (Room (storeOf (now sheet)) (now pool) object offset (length (now src))) ⌝ }
+    requires { ⌜ (Charted (now sheet) (now links)) × (Room (storeOf (now sheet)) (now pool) object offset (length (now src))) × (Held (now sheet) (now holders)) ⌝ }
     ensures { λ r. ⌜ Going (storeOf (now (sheet .entry))) (now (pool .entry)) object offset (now (src .entry)) r (storeOf (now (sheet .entry))) (now (pool .exit)) ⌝ }
 {
     let n = src.len();
@@ -109,7 +112,7 @@ pub fn overwrite_pages(
     while done < n {
         let at = offset + done;
         let m = PageNumber::in_page(at, n - done);
-        if overwrite_page(sheet, links, pool, object, at, src, done, m) {
+        if overwrite_page(sheet, holders, links, pool, object, at, src, done, m) {
             done += m;
         } else {
             return done;
