@@ -11,7 +11,6 @@ use lib.ListN.{drop, getD, getD-replicate, length, length-drop, length-set, repl
 use lib.Seq.{drop-set-add, drop-set-lt, getD-drop, getD-set-other, getD-set-same, getD-take, length-take-le, take-set-le, take-set-lt}
 use borrow.Author.Tests.{eq-eqb, ne-eqb}
 use Rattle.lists.specs.Test.{pick, by-eq, by-test}
-use Rattle.lists.specs.Every.{allBelow}
 
 -- one more than the last number below n with the property, or 0
 unfoldable pub lastBelow : (ℕ → Bool) → ℕ → ℕ
@@ -32,12 +31,12 @@ module _ (P : ℕ → Bool) where
       (λ e. let q : suc n - 1 ≡ n = omega arith in rw (e, q) e)
       (λ e. rw e (last-hit n (rw e at h)))
 
-  -- what holds of all without the property holds of all numbers that are passed over
-  pub last-all : (Q : ℕ → Bool) (n : ℕ) → ((k : ℕ) → k < n → P k ≡ false → Q k ≡ true) → allBelow Q (lastBelow P n) ≡ allBelow Q n
-  unfolding lastBelow allBelow
-  last-all Q zero h = refl
-  last-all Q (suc n) h =
-      by-test (P n) (λ e. rw e) (λ e. rw (e, h n (omega arith) e) (last-all Q n (λ k l. h k (omega arith))))
+  -- what one number without the property does not change, all the numbers that are passed over do not
+  pub last-same : {A : Type 0} (f : ℕ → A) (n : ℕ) → ((k : ℕ) → k < n → P k ≡ false → f (suc k) ≡ f k) → f (lastBelow P n) ≡ f n
+  unfolding lastBelow
+  last-same f zero h = refl
+  last-same f (suc n) h =
+      by-test (P n) (λ e. rw e) (λ e. rw e (last-same f n (λ k l. h k (omega arith)) ∙ sym (h n (omega arith) e)))
 
 -- entry k is in chain h
 abbrev pub inChain : List ℕ → ℕ → ℕ → Bool

@@ -8,7 +8,35 @@ use native.Mathlib.Omega.{arith}
 use lib.ListN.{getD}
 use borrow.Author.Tests.{eqb-true}
 use Rattle.lists.specs.Every.{allBelow, below-fails, below-zero}
-use Rattle.chains.specs.Chains.{Chained, Linked, inChain, last-all, last-hit, last-le, lastBelow}
+use Rattle.chains.specs.Chains.{Chained, Linked, inChain, last-hit, last-le, last-same, lastBelow}
+
+-- a walk along `ns` is at link k of chain h: the first m entries are linked by their keys
+pub record Along (ks : List ℕ) (h : ℕ) (ns : List ℕ) (m k : ℕ) : Type 0 where
+  pub links : Linked ks m ns
+  pub low : k ≤ m
+  pub inside : 0 < k → inChain ks h (k - 1) ≡ true
+
+-- it is so at the chain's last entry below p
+pub along-at : (ks : List ℕ) (h : ℕ) (ns : List ℕ) (m p k : ℕ) → Linked ks m ns → p ≤ m → k ≡ lastBelow (inChain ks h) p → Along ks h ns m k
+along-at ks h ns m p k L b e = rw e (record { links = L; low = omega (arith, last-le (inChain ks h) p); inside = last-hit (inChain ks h) p })
+
+module _ (ks : List ℕ) (h : ℕ) (ns : List ℕ) (m k : ℕ) (A : Along ks h ns m k) (u : 0 < k) where
+  -- the link that the walk goes on at
+  pub onward : getD ns (k - 1) 0 ≡ lastBelow (inChain ks h) (k - 1)
+  onward =
+      let l = A .low in
+      let e : getD ks (k - 1) 0 % 1024 ≡ h = eqb-true (getD ks (k - 1) 0 % 1024) h (A .inside u) in
+      A .links (k - 1) (omega arith) ∙ ap (λ (c : ℕ). lastBelow (inChain ks c) (k - 1)) e
+
+  pub along-less : getD ns (k - 1) 0 < k
+  along-less = omega (arith, onward, last-le (inChain ks h) (k - 1))
+
+  pub along-next : Along ks h ns m (getD ns (k - 1) 0)
+  along-next = let l = A .low in along-at ks h ns m (k - 1) (getD ns (k - 1) 0) (A .links) (omega arith) onward
+
+  -- what the entries outside of the chain do not change is the same at the next link
+  pub along-same : {T : Type 0} (f : ℕ → T) → ((j : ℕ) → j < m → inChain ks h j ≡ false → f (suc j) ≡ f j) → f (getD ns (k - 1) 0) ≡ f (k - 1)
+  along-same f o = let l = A .low in ap f onward ∙ last-same (inChain ks h) f (k - 1) (λ j i. o j (omega arith))
 
 -- the walk along `ns` is at link k: the entries below k answer as all below m do
 pub record Walk (ns : List ℕ) (Q : ℕ → Bool) (m k : ℕ) : Type 0 where
@@ -22,17 +50,18 @@ pub record Walk (ns : List ℕ) (Q : ℕ → Bool) (m k : ℕ) : Type 0 where
 
 -- a walk goes on at the chain's last entry below p, where the entries from p on have passed
 goes-on : (ks ns : List ℕ) (Q : ℕ → Bool) (h m p k : ℕ) → Linked ks m ns → ((j : ℕ) → j < m → inChain ks h j ≡ false → Q j ≡ true) → p ≤ m → allBelow Q p ≡ allBelow Q m → k ≡ lastBelow (inChain ks h) p → Walk ns Q m k
+unfolding allBelow
 goes-on ks ns Q h m p k L O b s e =
-    rw e
-    (record {
+    let A = along-at ks h ns m p k L b e in
+    record {
       keys = ks;
       chain = h;
       links = L;
       over = O;
-      low = omega (arith, last-le (inChain ks h) p);
-      inside = last-hit (inChain ks h) p;
-      same = last-all (inChain ks h) Q p (λ j l. O j (omega arith)) ∙ s;
-    })
+      low = A .low;
+      inside = A .inside;
+      same = ap (allBelow Q) e ∙ last-same (inChain ks h) (allBelow Q) p (λ j l o. rw (O j (omega arith) o)) ∙ s;
+    }
 
 -- through all of a chain
 pub walk-all : (ks hs ns : List ℕ) (n : ℕ) → Chained ks n hs ns → (Q : ℕ → Bool) (h : ℕ) → h < 1024 → ((j : ℕ) → j < n → inChain ks h j ≡ false → Q j ≡ true)
@@ -49,21 +78,17 @@ pub link-low : (ks ns : List ℕ) (n : ℕ) → Linked ks n ns → (i : ℕ) →
 link-low ks ns n L i b = omega (arith, L i b, last-le (inChain ks (getD ks i 0 % 1024)) i)
 
 module _ (ns : List ℕ) (Q : ℕ → Bool) (m k : ℕ) (W : Walk ns Q m k) where
-  -- the link that the walk goes on at
-  onward : 0 < k → getD ns (k - 1) 0 ≡ lastBelow (inChain (W .keys) (W .chain)) (k - 1)
-  onward h =
-      let l = W .low in
-      let e : getD (W .keys) (k - 1) 0 % 1024 ≡ W .chain = eqb-true (getD (W .keys) (k - 1) 0 % 1024) (W .chain) (W .inside h) in
-      W .links (k - 1) (omega arith) ∙ ap (λ (c : ℕ). lastBelow (inChain (W .keys) c) (k - 1)) e
+  walk-along : Along (W .keys) (W .chain) ns m k
+  walk-along = record { links = W .links; low = W .low; inside = W .inside }
 
   pub walk-less : 0 < k → getD ns (k - 1) 0 < k
-  walk-less h = omega (arith, onward h, last-le (inChain (W .keys) (W .chain)) (k - 1))
+  walk-less h = along-less (W .keys) (W .chain) ns m k walk-along h
 
   pub walk-next : 0 < k → Q (k - 1) ≡ true → Walk ns Q m (getD ns (k - 1) 0)
   unfolding allBelow
   walk-next h q =
       let l = W .low in
-      goes-on (W .keys) ns Q (W .chain) m (k - 1) (getD ns (k - 1) 0) (W .links) (W .over) (omega arith) (one k h q ∙ W .same) (onward h)
+      goes-on (W .keys) ns Q (W .chain) m (k - 1) (getD ns (k - 1) 0) (W .links) (W .over) (omega arith) (one k h q ∙ W .same) (onward (W .keys) (W .chain) ns m k walk-along h)
     where
       one : (i : ℕ) → 0 < i → Q (i - 1) ≡ true → allBelow Q (i - 1) ≡ allBelow Q i
       one zero p e = absurd (not-suc-le-zero p)

@@ -1,4 +1,4 @@
-// Bytes of an object read, and written over where they are, page by page, with the store on a sheet.
+// Bytes of an object read, written over where they are, and copied over those of another object, page by page, with the store on a sheet.
 use frames::Frame;
 use look::PageAt;
 use page::PageNumber;
@@ -11,12 +11,16 @@ ghost use Rattle.book.specs.Page.{over};
 ghost use Rattle.book.specs.Bytes.{reading};
 ghost use Rattle.book.specs.Book.{entry};
 ghost use Rattle.store.specs.Abs.{bookOf};
+ghost use Rattle.store.specs.Spare.{workOf};
 ghost use Rattle.reads.specs.Reading.{pageBytes};
 ghost use Rattle.pages.specs.Inside.{Inside, Wrote};
 ghost use Rattle.writes.specs.Written.{Room};
 ghost use Rattle.writes.specs.Going.{Going};
+ghost use Rattle.moves.specs.Copying.{Copying};
+ghost use Rattle.moves.specs.Moving.{Away};
 ghost use Rattle.sheet.specs.Sheet.{storeOf};
 ghost use Rattle.seek.specs.Framed.{Charted};
+ghost use Rattle.seek.specs.Held.{Held};
 
 // n bytes from place k of page g of the line, stored in buf from index at. "Absent bytes read as zero."
 pub fn read_page(
@@ -69,6 +73,7 @@ pub fn read_pages(
 // written, and the answer is no.
 pub fn overwrite_page(
     sheet: &[u64; 2579],
+    holders: &[u16; 2048],
     links: &[u16; 2048],
     pool: &mut [u8],
     object: u32,
@@ -77,12 +82,12 @@ pub fn overwrite_page(
     from: usize,
     m: usize,
 ) -> bool
-    requires { ⌜ (Charted (now sheet) (now links)) × (Inside (storeOf (now sheet)) (now pool)) × (offset < 1073741824) × (offset % 4096 + m ≤ 4096) × (from + m ≤ length (now src)) ⌝ }
+    requires { ⌜ (Charted (now sheet) (now links)) × (Inside (storeOf (now sheet)) (now pool)) × (offset < 1073741824) × (offset % 4096 + m ≤ 4096) × (from + m ≤ length (now src)) × (Held (now sheet) (now holders)) ⌝ }
     ensures { λ q. ⌜ (q ≡ true → Wrote (storeOf (now (sheet .entry))) (now (pool .entry)) object (offset / 4096) (over (offset % 4096) (take m (drop from (now (src .entry))))) (storeOf (now (sheet .entry))) (now (pool .exit))) × (q ≡ false → now (pool .exit) ≡ now (pool .entry)) ⌝ }
 {
     let page = PageNumber::from_offset(offset);
     let g = table::line_of(object, page);
-    match seek::private_frame(sheet, links, g) {
+    match seek::private_frame(sheet, holders, links, g) {
         Frame::At(f) => {
             let at = f * PageNumber::PAGE_SIZE + PageNumber::place(offset);
             pool::copy_in(pool, at, src, from, m);
@@ -95,13 +100,14 @@ pub fn overwrite_page(
 // The bytes of src written from `offset` on as far as the pages are present and private, so that the store stays: how many bytes are written.
 pub fn overwrite_pages(
     sheet: &[u64; 2579],
+    holders: &[u16; 2048],
     links: &[u16; 2048],
     pool: &mut [u8],
     object: u32,
     offset: usize,
     src: &[u8],
 ) -> usize
-    requires { ⌜ (Charted (now sheet) (now links)) × (Room (storeOf (now sheet)) (now pool) object offset (length (now src))) ⌝ }
+    requires { ⌜ (Charted (now sheet) (now links)) × (Room (storeOf (now sheet)) (now pool) object offset (length (now src))) × (Held (now sheet) (now holders)) ⌝ }
     ensures { λ r. ⌜ Going (storeOf (now (sheet .entry))) (now (pool .entry)) object offset (now (src .entry)) r (storeOf (now (sheet .entry))) (now (pool .exit)) ⌝ }
 {
     let n = src.len();
@@ -109,7 +115,116 @@ pub fn overwrite_pages(
     while done < n {
         let at = offset + done;
         let m = PageNumber::in_page(at, n - done);
-        if overwrite_page(sheet, links, pool, object, at, src, done, m) {
+        if overwrite_page(sheet, holders, links, pool, object, at, src, done, m) {
+            done += m;
+        } else {
+            return done;
+        }
+    }
+    done
+}
+
+// n bytes from place k of page g of the line, stored in the pool from index at. "Absent bytes read as zero."
+fn move_part(
+    sheet: &[u64; 2579],
+    links: &[u16; 2048],
+    pool: &mut [u8],
+    g: usize,
+    k: usize,
+    at: usize,
+    n: usize,
+)
+    requires { ⌜ (Charted (now sheet) (now links)) × (length (now pool) ≡ storeOf (now sheet) .frames * 4096) ⌝ }
+    requires { ⌜ (g < 1000000000000000000) × (k + n ≤ 4096) × (at + n ≤ length (now pool)) ⌝ }
+    ensures { λ _. ⌜ now (pool .exit) ≡ paste (now (pool .entry)) at (drop k (pageBytes (storeOf (now (sheet .entry))) (now (pool .entry)) g)) n ⌝ }
+{
+    match seek::locate(sheet, links, g) {
+        PageAt::Absent => pool::fill(pool, at, n, 0),
+        PageAt::Present(l) => pool::move_within(pool, at, l.frame * PageNumber::PAGE_SIZE + k, n),
+    }
+}
+
+// m bytes of object source from offset on, stored from index at in a frame that has none of its pages. "Each source page is judged separately."
+fn move_in(
+    sheet: &[u64; 2579],
+    links: &[u16; 2048],
+    pool: &mut [u8],
+    source: u32,
+    offset: usize,
+    at: usize,
+    m: usize,
+)
+    requires { ⌜ (Charted (now sheet) (now links)) × (length (now pool) ≡ storeOf (now sheet) .frames * 4096) ⌝ }
+    requires { ⌜ (offset + m ≤ 1073741824) × (at % 4096 + m ≤ 4096) × (at + m ≤ length (now pool)) × (Away (storeOf (now sheet)) source (at / 4096)) ⌝ }
+    ensures { λ _. ⌜ now (pool .exit) ≡ paste (now (pool .entry)) at (reading source offset m (workOf (storeOf (now (sheet .entry))) (now (pool .entry)))) m ⌝ }
+{
+    let p = PageNumber::from_offset(offset);
+    let k = PageNumber::place(offset);
+    let a = PageNumber::in_page(offset, m);
+    let g = table::line_of(source, p);
+    move_part(sheet, links, pool, g, k, at, a);
+    move_part(sheet, links, pool, g + 1, 0, at + a, m - a);
+}
+
+// m bytes of object source from offset `from` on, written to the page of `object` that offset lies in, where that is present and private: the store
+// stays. Else nothing is written, and the answer is no.
+fn overcopy_page(
+    sheet: &[u64; 2579],
+    holders: &[u16; 2048],
+    links: &[u16; 2048],
+    pool: &mut [u8],
+    source: u32,
+    from: usize,
+    object: u32,
+    offset: usize,
+    m: usize,
+) -> bool
+    requires { ⌜ (Charted (now sheet) (now links)) × (Inside (storeOf (now sheet)) (now pool)) × (source ≡ object → ⊥) × (offset < 1073741824) × (offset % 4096 + m ≤ 4096) × (from + m ≤ 1073741824) × (Held (now sheet) (now holders)) ⌝ }
+    ensures { λ q. ⌜ (q ≡ true → Wrote (storeOf (now (sheet .entry))) (now (pool .entry)) object (offset / 4096) (over (offset % 4096) (reading source from m (workOf (storeOf (now (sheet .entry))) (now (pool .entry))))) (storeOf (now (sheet .entry))) (now (pool .exit))) × (q ≡ false → now (pool .exit) ≡ now (pool .entry)) ⌝ }
+{
+    let page = PageNumber::from_offset(offset);
+    let g = table::line_of(object, page);
+    match seek::private_frame(sheet, holders, links, g) {
+        Frame::At(f) => {
+            let at = f * PageNumber::PAGE_SIZE + PageNumber::place(offset);
+            move_in(sheet, links, pool, source, from, at, m);
+            true
+        }
+        Frame::Nothing => false,
+    }
+}
+
+// n bytes of object source from offset `from` on, written to `object` from `offset` on as far as its pages are present and private, so that the store
+// stays: how many bytes are written.
+pub fn overcopy_pages(
+    sheet: &[u64; 2579],
+    holders: &[u16; 2048],
+    links: &[u16; 2048],
+    pool: &mut [u8],
+    source: u32,
+    from: usize,
+    object: u32,
+    offset: usize,
+    n: usize,
+) -> usize
+    requires { ⌜ (Charted (now sheet) (now links)) × (Room (storeOf (now sheet)) (now pool) object offset n) × (source ≡ object → ⊥) × (from + n ≤ 1073741824) × (Held (now sheet) (now holders)) ⌝ }
+    ensures { λ r. ⌜ Copying (storeOf (now (sheet .entry))) (now (pool .entry)) source from object offset n r (storeOf (now (sheet .entry))) (now (pool .exit)) ⌝ }
+{
+    let mut done: usize = 0;
+    while done < n {
+        let at = offset + done;
+        let m = PageNumber::in_page(at, n - done);
+        if overcopy_page(
+            sheet,
+            holders,
+            links,
+            pool,
+            source,
+            from + done,
+            object,
+            at,
+            m,
+        ) {
             done += m;
         } else {
             return done;

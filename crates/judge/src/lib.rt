@@ -24,6 +24,7 @@ ghost use Rattle.refuse.specs.Needs as needs;
 ghost use Rattle.refuse.specs.Spans.{spanIs};
 ghost use Rattle.sheet.specs.Sheet.{storeOf};
 ghost use Rattle.seek.specs.Framed.{Charted, Framed};
+ghost use Rattle.seek.specs.Held.{Held};
 
 // 2 or 3 of a call that lends a pool and names an object.
 fn opening(sheet: &[u64; 2579], pool: usize, object: u32) -> u8
@@ -192,11 +193,17 @@ pub fn read(sheet: &[u64; 2579], pool: usize, object: u32, offset: usize, n: usi
 }
 
 // The frames that page g of the line wants: one if it is shared, `absent` if it is absent.
-fn wants(sheet: &[u64; 2579], links: &[u16; 2048], g: usize, absent: usize) -> usize
-    requires { ⌜ (Charted (now sheet) (now links)) × (g < 1000000000000000000) × (absent ≤ 1) ⌝ }
+fn wants(
+    sheet: &[u64; 2579],
+    holders: &[u16; 2048],
+    links: &[u16; 2048],
+    g: usize,
+    absent: usize,
+) -> usize
+    requires { ⌜ (Charted (now sheet) (now links)) × (g < 1000000000000000000) × (absent ≤ 1) × (Held (now sheet) (now holders)) ⌝ }
     ensures { λ r. ⌜ (r ≡ framesAt absent (storeOf (now (sheet .entry))) g) × (r ≤ 1) ⌝ }
 {
-    match seek::state_of(sheet, links, g) {
+    match seek::state_of(sheet, holders, links, g) {
         State::Absent => absent,
         State::Private => 0,
         State::Shared => 1,
@@ -206,13 +213,14 @@ fn wants(sheet: &[u64; 2579], links: &[u16; 2048], g: usize, absent: usize) -> u
 // How many of the n pages from `page` on are absent or shared. Counting stops above the limit: the answer is known then.
 fn wanted(
     sheet: &[u64; 2579],
+    holders: &[u16; 2048],
     links: &[u16; 2048],
     object: u32,
     page: PageNumber,
     n: usize,
     limit: usize,
 ) -> usize
-    requires { ⌜ (Charted (now sheet) (now links)) × (page .0 + n ≤ 262144) ⌝ }
+    requires { ⌜ (Charted (now sheet) (now links)) × (page .0 + n ≤ 262144) × (Held (now sheet) (now holders)) ⌝ }
     ensures { λ r. ⌜ ((x : List ℕ) → Upto limit (wanted n object (page .0) (entry (bookOf (storeOf (now (sheet .entry))) x))) r) ⌝ }
 {
     let mut w: usize = 0;
@@ -223,7 +231,7 @@ fn wanted(
         }
         let p = page.offset(i);
         let g = table::line_of(object, p);
-        w += wants(sheet, links, g, 1);
+        w += wants(sheet, holders, links, g, 1);
         i += 1;
     }
     w
@@ -232,49 +240,52 @@ fn wanted(
 // "For a write .., each touched destination page counts that is absent or shared at entry", looked at in at most frames + 1 pages.
 fn counted(
     sheet: &[u64; 2579],
+    holders: &[u16; 2048],
     links: &[u16; 2048],
     object: u32,
     offset: usize,
     n: usize,
     limit: usize,
 ) -> usize
-    requires { ⌜ (Charted (now sheet) (now links)) × (offset + n ≤ 1073741824) ⌝ }
+    requires { ⌜ (Charted (now sheet) (now links)) × (offset + n ≤ 1073741824) × (Held (now sheet) (now holders)) ⌝ }
     ensures { λ r. ⌜ ((x : List ℕ) → Upto limit (counted object offset n (entry (bookOf (storeOf (now (sheet .entry))) x))) r) ⌝ }
 {
     let page = PageNumber::from_offset(offset);
     let t = refuse::touched(offset, n);
     let f = frames(sheet);
     if f < t {
-        return wanted(sheet, links, object, page, f + 1, limit);
+        return wanted(sheet, holders, links, object, page, f + 1, limit);
     }
-    wanted(sheet, links, object, page, t, limit)
+    wanted(sheet, holders, links, object, page, t, limit)
 }
 
 // 8 or 9 of a write, or of a copy at unequal places.
 fn lacking_bytes(
     sheet: &[u64; 2579],
+    holders: &[u16; 2048],
     links: &[u16; 2048],
     object: u32,
     offset: usize,
     n: usize,
 ) -> u8
-    requires { ⌜ (Sound (storeOf (now sheet))) × (Framed (now sheet) (now links)) × (offset + n ≤ 1073741824) ⌝ }
+    requires { ⌜ (Sound (storeOf (now sheet))) × (Framed (now sheet) (now links)) × (offset + n ≤ 1073741824) × (Held (now sheet) (now holders)) ⌝ }
     ensures { λ q. ⌜ ((x : List ℕ) → q ≡ lowest (lacking (entry (bookOf (storeOf (now (sheet .entry))) x)) (needWrite object offset n (entry (bookOf (storeOf (now (sheet .entry))) x))))) ⌝ }
 {
     let spare = free_frames(sheet);
-    let f = counted(sheet, links, object, offset, n, spare);
+    let f = counted(sheet, holders, links, object, offset, n, spare);
     lacking(sheet, f, 0)
 }
 
 pub fn write(
     sheet: &[u64; 2579],
+    holders: &[u16; 2048],
     links: &[u16; 2048],
     pool: usize,
     object: u32,
     offset: usize,
     n: usize,
 ) -> u8
-    requires { ⌜ (Sound (storeOf (now sheet))) × (Framed (now sheet) (now links)) ⌝ }
+    requires { ⌜ (Sound (storeOf (now sheet))) × (Framed (now sheet) (now links)) × (Held (now sheet) (now holders)) ⌝ }
     ensures { λ q. ⌜ ((x d : List ℕ) → length x ≡ pool → length d ≡ n → q ≡ refusal (storeOf (now (sheet .entry))) x (write object offset d)) ⌝ }
 {
     let k = opening(sheet, pool, object);
@@ -284,12 +295,13 @@ pub fn write(
     if refuse::past_end(offset, n) {
         return 6;
     }
-    lacking_bytes(sheet, links, object, offset, n)
+    lacking_bytes(sheet, holders, links, object, offset, n)
 }
 
 // "each partly touched page counts: always if there are whole pages too, else if absent or shared (zeroing: present and shared)": n bytes of it
 fn partly(
     sheet: &[u64; 2579],
+    holders: &[u16; 2048],
     links: &[u16; 2048],
     p: Span,
     object: u32,
@@ -297,7 +309,7 @@ fn partly(
     n: usize,
     absent: usize,
 ) -> usize
-    requires { ⌜ (Charted (now sheet) (now links)) × (page .0 ≤ 262144) × (absent ≤ 1) ⌝ }
+    requires { ⌜ (Charted (now sheet) (now links)) × (page .0 ≤ 262144) × (absent ≤ 1) × (Held (now sheet) (now holders)) ⌝ }
     ensures { λ r. ⌜ ((x : List ℕ) → r ≡ partly (spanIs p) (λ q. needs.frames absent (stateOf object q (entry (bookOf (storeOf (now (sheet .entry))) x)))) (page .0) n) × (r ≤ 1) ⌝ }
 {
     if n == 0 {
@@ -307,26 +319,27 @@ fn partly(
         return 1;
     }
     let g = table::line_of(object, page);
-    wants(sheet, links, g, absent)
+    wants(sheet, holders, links, g, absent)
 }
 
 // The partly touched pages that count, of the n bytes from `offset` on.
 fn counted_parts(
     sheet: &[u64; 2579],
+    holders: &[u16; 2048],
     links: &[u16; 2048],
     object: u32,
     offset: usize,
     n: usize,
     absent: usize,
 ) -> usize
-    requires { ⌜ (Charted (now sheet) (now links)) × (offset + n ≤ 1073741824) × (absent ≤ 1) ⌝ }
+    requires { ⌜ (Charted (now sheet) (now links)) × (offset + n ≤ 1073741824) × (absent ≤ 1) × (Held (now sheet) (now holders)) ⌝ }
     ensures { λ r. ⌜ ((x : List ℕ) → r ≡ countedParts (λ q. needs.frames absent (stateOf object q (entry (bookOf (storeOf (now (sheet .entry))) x)))) 4096 offset n) × (r ≤ 2) ⌝ }
 {
     let p = PageNumber::span_of(offset, n);
     let first = PageNumber::from_offset(offset);
     let last = PageNumber::from_offset(offset + (p.head + p.whole * PageNumber::PAGE_SIZE));
-    let a = partly(sheet, links, p, object, first, p.head, absent);
-    let b = partly(sheet, links, p, object, last, p.tail, absent);
+    let a = partly(sheet, holders, links, p, object, first, p.head, absent);
+    let b = partly(sheet, holders, links, p, object, last, p.tail, absent);
     a + b
 }
 
@@ -364,6 +377,7 @@ fn met_whole(sheet: &[u64; 2579], source: u32, offset: usize, n: usize) -> usize
 // 8 or 9 of a copy.
 fn lacking_copy(
     sheet: &[u64; 2579],
+    holders: &[u16; 2048],
     links: &[u16; 2048],
     source: u32,
     from: usize,
@@ -371,19 +385,20 @@ fn lacking_copy(
     to: usize,
     n: usize,
 ) -> u8
-    requires { ⌜ (Sound (storeOf (now sheet))) × (Framed (now sheet) (now links)) × (from + n ≤ 1073741824) × (to + n ≤ 1073741824) ⌝ }
+    requires { ⌜ (Sound (storeOf (now sheet))) × (Framed (now sheet) (now links)) × (from + n ≤ 1073741824) × (to + n ≤ 1073741824) × (Held (now sheet) (now holders)) ⌝ }
     ensures { λ q. ⌜ ((x : List ℕ) → q ≡ lowest (lacking (entry (bookOf (storeOf (now (sheet .entry))) x)) (needCopy source from object to n (entry (bookOf (storeOf (now (sheet .entry))) x))))) ⌝ }
 {
     if PageNumber::place(from) == PageNumber::place(to) {
-        let f = counted_parts(sheet, links, object, to, n, 1);
+        let f = counted_parts(sheet, holders, links, object, to, n, 1);
         let m = met_whole(sheet, source, from, n);
         return lacking(sheet, f, 2 * m);
     }
-    lacking_bytes(sheet, links, object, to, n)
+    lacking_bytes(sheet, holders, links, object, to, n)
 }
 
 pub fn copy(
     sheet: &[u64; 2579],
+    holders: &[u16; 2048],
     links: &[u16; 2048],
     pool: usize,
     source: u32,
@@ -392,14 +407,14 @@ pub fn copy(
     to: usize,
     n: usize,
 ) -> u8
-    requires { ⌜ (Sound (storeOf (now sheet))) × (Framed (now sheet) (now links)) ⌝ }
+    requires { ⌜ (Sound (storeOf (now sheet))) × (Framed (now sheet) (now links)) × (Held (now sheet) (now holders)) ⌝ }
     ensures { λ q. ⌜ ((x : List ℕ) → length x ≡ pool → q ≡ refusal (storeOf (now (sheet .entry))) x (copy source from object to n)) ⌝ }
 {
     let k = pairing(sheet, pool, source, from, object, to, n);
     if 0 < k {
         return k;
     }
-    lacking_copy(sheet, links, source, from, object, to, n)
+    lacking_copy(sheet, holders, links, source, from, object, to, n)
 }
 
 pub fn shadow(
@@ -428,28 +443,30 @@ pub fn shadow(
 // 8 or 9 of zeroing: "zeroing whole pages needs one" slot besides.
 fn lacking_zero(
     sheet: &[u64; 2579],
+    holders: &[u16; 2048],
     links: &[u16; 2048],
     object: u32,
     offset: usize,
     n: usize,
 ) -> u8
-    requires { ⌜ (Sound (storeOf (now sheet))) × (Framed (now sheet) (now links)) × (offset + n ≤ 1073741824) ⌝ }
+    requires { ⌜ (Sound (storeOf (now sheet))) × (Framed (now sheet) (now links)) × (offset + n ≤ 1073741824) × (Held (now sheet) (now holders)) ⌝ }
     ensures { λ q. ⌜ ((x : List ℕ) → q ≡ lowest (lacking (entry (bookOf (storeOf (now (sheet .entry))) x)) (needZero object offset n (entry (bookOf (storeOf (now (sheet .entry))) x))))) ⌝ }
 {
-    let f = counted_parts(sheet, links, object, offset, n, 0);
+    let f = counted_parts(sheet, holders, links, object, offset, n, 0);
     let p = PageNumber::span_of(offset, n);
     lacking(sheet, f, page::smaller(1, p.whole))
 }
 
 pub fn zero(
     sheet: &[u64; 2579],
+    holders: &[u16; 2048],
     links: &[u16; 2048],
     pool: usize,
     object: u32,
     offset: usize,
     n: usize,
 ) -> u8
-    requires { ⌜ (Sound (storeOf (now sheet))) × (Framed (now sheet) (now links)) ⌝ }
+    requires { ⌜ (Sound (storeOf (now sheet))) × (Framed (now sheet) (now links)) × (Held (now sheet) (now holders)) ⌝ }
     ensures { λ q. ⌜ ((x : List ℕ) → length x ≡ pool → q ≡ refusal (storeOf (now (sheet .entry))) x (zeroOut object offset n)) ⌝ }
 {
     let k = opening(sheet, pool, object);
@@ -459,5 +476,5 @@ pub fn zero(
     if refuse::past_end(offset, n) {
         return 6;
     }
-    lacking_zero(sheet, links, object, offset, n)
+    lacking_zero(sheet, holders, links, object, offset, n)
 }

@@ -156,13 +156,14 @@ module _ (w l : List ℕ) (b i : ℕ) (C : Framed w l) (few : storeOf w .frames 
       other j u o =
           by-test (standsAt b i (placeAt (storeOf w .places) j)) (λ t. absurd (false≢true (sym o ∙ chained j u t))) (λ t. ap not t)
 
+-- the link behind link k, heads and links being in one table
+pub behind : (l : List ℕ) (k : ℕ) → 0 < k → getD (drop 1024 l) (k - 1) 0 ≡ getD l (1023 + k) 0
+behind l k h = let e : 1024 + (k - 1) ≡ 1023 + k = omega arith in getD-drop 1024 l (k - 1) 0 ∙ ap (λ (j : ℕ). getD l j 0) e
+
 -- the walk goes on at the link behind link k
 module _ (l : List ℕ) (Q : ℕ → Bool) (m k : ℕ) (W : Walk (drop 1024 l) Q m k) (h : 0 < k) where
-  behind : getD (drop 1024 l) (k - 1) 0 ≡ getD l (1023 + k) 0
-  behind = let e : 1024 + (k - 1) ≡ 1023 + k = omega arith in getD-drop 1024 l (k - 1) 0 ∙ ap (λ (j : ℕ). getD l j 0) e
-
   pub link-less : getD l (1023 + k) 0 < k
-  link-less = rw behind at (walk-less (drop 1024 l) Q m k W h)
+  link-less = rw (behind l k h) at (walk-less (drop 1024 l) Q m k W h)
 
   pub link-next : Q (k - 1) ≡ true → Walk (drop 1024 l) Q m (getD l (1023 + k) 0)
-  link-next q = rw behind at (walk-next (drop 1024 l) Q m k W h q)
+  link-next q = rw (behind l k h) at (walk-next (drop 1024 l) Q m k W h q)

@@ -14,6 +14,7 @@ ghost use Rattle.places.specs.Places.{frameAt};
 ghost use Rattle.look.specs.Look.{inRange, located, privateIn, sharedIn, seen};
 ghost use Rattle.sheet.specs.Sheet.{storeOf};
 ghost use Rattle.seek.specs.Framed.{Charted, Framed, Lone};
+ghost use Rattle.seek.specs.Held.{Held};
 
 // The frame that stands at this backing and index: a walk along the chain of that place.
 pub fn frame_of(sheet: &[u64; 2579], links: &[u16; 2048], backing: u32, index: u32) -> Frame
@@ -59,36 +60,52 @@ pub fn locate(sheet: &[u64; 2579], links: &[u16; 2048], g: usize) -> PageAt
     }
 }
 
-// "A backing held by two or more ranges is shared."
-pub fn sharing(sheet: &[u64; 2579], backing: u32) -> State
-    requires { ⌜ storeOf (now sheet) .count ≤ 512 ⌝ }
+// "A backing held by two or more ranges is shared.": a walk along the chain of the backing, until two are met.
+pub fn sharing(sheet: &[u64; 2579], holders: &[u16; 2048], backing: u32) -> State
+    requires { ⌜ (Held (now sheet) (now holders)) × (storeOf (now sheet) .count ≤ 512) × (0 < backing) ⌝ }
     ensures { λ q. ⌜ q ≡ sharedIn (storeOf (now (sheet .entry))) backing ⌝ }
 {
-    if 1 < rows::holder_count(sheet, backing) {
-        return State::Shared;
+    let mut met: usize = 0;
+    let mut at = holders[(backing as usize) % 1024] as usize;
+    while 0 < at {
+        let b = sheet::backing(sheet[1023 + at]);
+        let x = table::number(b);
+        at = holders[1023 + at] as usize;
+        if backing == x {
+            if 0 < met {
+                return State::Shared;
+            }
+            met = 1;
+            continue;
+        }
     }
     State::Private
 }
 
 // The state of page g of the line.
-pub fn state_of(sheet: &[u64; 2579], links: &[u16; 2048], g: usize) -> State
-    requires { ⌜ (Charted (now sheet) (now links)) × (g < 1000000000000000000) ⌝ }
+pub fn state_of(sheet: &[u64; 2579], holders: &[u16; 2048], links: &[u16; 2048], g: usize) -> State
+    requires { ⌜ (Charted (now sheet) (now links)) × (g < 1000000000000000000) × (Held (now sheet) (now holders)) ⌝ }
     ensures { λ q. ⌜ q ≡ seen (storeOf (now (sheet .entry))) (located (storeOf (now (sheet .entry))) g) ⌝ }
 {
     match locate(sheet, links, g) {
         PageAt::Absent => State::Absent,
-        PageAt::Present(l) => sharing(sheet, l.backing),
+        PageAt::Present(l) => sharing(sheet, holders, l.backing),
     }
 }
 
 // The frame of page g of the line, if it is present and private.
-pub fn private_frame(sheet: &[u64; 2579], links: &[u16; 2048], g: usize) -> Frame
-    requires { ⌜ (Charted (now sheet) (now links)) × (g < 1000000000000000000) ⌝ }
+pub fn private_frame(
+    sheet: &[u64; 2579],
+    holders: &[u16; 2048],
+    links: &[u16; 2048],
+    g: usize,
+) -> Frame
+    requires { ⌜ (Charted (now sheet) (now links)) × (g < 1000000000000000000) × (Held (now sheet) (now holders)) ⌝ }
     ensures { λ q. ⌜ q ≡ privateIn (storeOf (now (sheet .entry))) (located (storeOf (now (sheet .entry))) g) ⌝ }
 {
     match locate(sheet, links, g) {
         PageAt::Absent => Frame::Nothing,
-        PageAt::Present(l) => match sharing(sheet, l.backing) {
+        PageAt::Present(l) => match sharing(sheet, holders, l.backing) {
             State::Absent => Frame::Nothing,
             State::Private => Frame::At(l.frame),
             State::Shared => Frame::Nothing,

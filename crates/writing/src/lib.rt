@@ -16,6 +16,8 @@ ghost use Rattle.pages.specs.Present as pagesPresent;
 ghost use Rattle.writes.specs.Written.{Room, Written};
 ghost use Rattle.moves.specs.Moving.{Away};
 ghost use Rattle.moves.specs.Source.{Elsewhere};
+ghost use Rattle.seek.specs.Framed.{Charted};
+ghost use Rattle.seek.specs.Held.{Held};
 
 // The bytes of src written from `offset` on: "Calls work in page order".
 pub fn write_pages(sheet: &mut [u64; 2579], pool: &mut [u8], object: u32, offset: usize, src: &[u8])
@@ -97,5 +99,34 @@ pub fn copy_bytes(
         let m = PageNumber::in_page(at, n - done);
         copy_page(sheet, pool, source, from + done, object, at, m);
         done = done + m;
+    }
+}
+
+// The same, over the pages that are present and private first, which are found by the chains: from the first other one on the store changes.
+pub fn copy_over(
+    sheet: &mut [u64; 2579],
+    holders: &[u16; 2048],
+    links: &[u16; 2048],
+    pool: &mut [u8],
+    source: u32,
+    from: usize,
+    object: u32,
+    offset: usize,
+    n: usize,
+)
+    requires { ⌜ (length (now sheet) ≡ 2579) × (Room (storeOf (now sheet)) (now pool) object offset n) × (source ≡ object → ⊥) × (from + n ≤ 1073741824) × (Charted (now sheet) (now links)) × (Held (now sheet) (now holders)) ⌝ }
+    ensures { λ _. ⌜ (Written (storeOf (now (sheet .entry))) (now (pool .entry)) object offset (reading source from n (workOf (storeOf (now (sheet .entry))) (now (pool .entry)))) (storeOf (now (sheet .exit))) (now (pool .exit))) × (Elsewhere object (workOf (storeOf (now (sheet .entry))) (now (pool .entry))) (workOf (storeOf (now (sheet .exit))) (now (pool .exit)))) × (length (now (sheet .exit)) ≡ 2579) ⌝ }
+{
+    let done = fetch::overcopy_pages(sheet, holders, links, pool, source, from, object, offset, n);
+    if done < n {
+        copy_bytes(
+            sheet,
+            pool,
+            source,
+            from + done,
+            object,
+            offset + done,
+            n - done,
+        );
     }
 }

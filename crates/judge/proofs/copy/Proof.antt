@@ -22,7 +22,7 @@ lacking-copy-requires c κs =
     let o = c .before .pairing in
     let z : 0 ≡ lowest (pairing (storeOf (a .sheet .now)) (a .pool) (a .source) (a .from) (a .object) (a .to) (a .n)) = omega (arith, o .ensures, c .if1 .left) in
     let e = paired-ends (storeOf (a .sheet .now)) (a .pool) (a .source) (a .from) (a .object) (a .to) (a .n) z in
-    (c .before .before .pre .0, c .before .before .pre .1, e .0, e .1)
+    (c .before .before .pre .0, c .before .before .pre .1, e .0, e .1, c .before .before .pre .2)
 
 returns-2 : tie.Need-returns-2
 returns-2 c =

@@ -25,7 +25,7 @@ wanted-requires : tie.Need-wanted-requires
 wanted-requires c κs =
     let a = c .before .before .before .before .args in
     let q = c .before .before .before .before .pre in
-    (q .0, omega (arith, touched-inside (a .offset) (a .n) (q .1), c .before .before .touched .ensures, c .before .before .before .from-offset .ensures, c .if1 .taken))
+    (q .0, omega (arith, touched-inside (a .offset) (a .n) (q .1), c .before .before .touched .ensures, c .before .before .before .from-offset .ensures, c .if1 .taken), q .2)
 
 returns : tie.Need-returns
 returns c =
@@ -39,7 +39,7 @@ wanted-requires-2 : tie.Need-wanted-requires-2
 wanted-requires-2 c κs =
     let a = c .before .before .before .before .args in
     let q = c .before .before .before .before .pre in
-    (q .0, omega (arith, touched-inside (a .offset) (a .n) (q .1), c .before .before .touched .ensures, c .before .before .before .from-offset .ensures))
+    (q .0, omega (arith, touched-inside (a .offset) (a .n) (q .1), c .before .before .touched .ensures, c .before .before .before .from-offset .ensures), q .2)
 
 returns-2 : tie.Need-returns-2
 returns-2 c =

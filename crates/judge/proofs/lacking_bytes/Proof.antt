@@ -17,7 +17,7 @@ counted-requires : tie.Need-counted-requires
 counted-requires c κs =
     let a = c .before .args in
     let q = c .before .pre in
-    (sound-charted (a .sheet .now) (a .links .now) (q .0) (q .1), q .2)
+    (sound-charted (a .sheet .now) (a .links .now) (q .0) (q .1), q .2, q .3)
 
 lacking-requires : tie.Need-lacking-requires
 lacking-requires c κs = search needs

@@ -23,7 +23,7 @@ counted-parts-requires : tie.Need-counted-parts-requires
 counted-parts-requires c κs =
     let a = c .before .before .before .args in
     let q = c .before .before .before .pre in
-    (sound-charted (a .sheet .now) (a .links .now) (q .0) (q .1), q .3, omega arith)
+    (sound-charted (a .sheet .now) (a .links .now) (q .0) (q .1), q .3, omega arith, q .4)
 
 met-whole-requires : tie.Need-met-whole-requires
 met-whole-requires c κs =

@@ -14,7 +14,7 @@ counted-parts-requires : tie.Need-counted-parts-requires
 counted-parts-requires c κs =
     let a = c .args in
     let q = c .pre in
-    (sound-charted (a .sheet .now) (a .links .now) (q .0) (q .1), q .2, omega arith)
+    (sound-charted (a .sheet .now) (a .links .now) (q .0) (q .1), q .2, omega arith, q .3)
 
 span-of-requires : tie.Need-span-of-requires
 span-of-requires c κs = search needs

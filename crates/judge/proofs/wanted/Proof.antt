@@ -16,11 +16,11 @@ use Rattle.judge.proofs.wanted.Statement.{statement}
 use Rattle.judge.proofs.wanted.Tie as tie
 
 abbrev Inv-loop : tie.InvT-loop
-Inv-loop sheet links object page n limit w₀ i₀ w i =
+Inv-loop sheet holders links object page n limit w₀ i₀ w i =
     (i ≤ n) × (w ≤ i) × ((x : List ℕ) → w + wanted (n - i) object (page .0 + i) (entry (bookOf (storeOf sheet) x)) ≡ wanted n object (page .0) (entry (bookOf (storeOf sheet) x)))
 
 abbrev μ-loop : tie.MeasureT-loop
-μ-loop sheet links object page n limit w₀ i₀ w i = n - i
+μ-loop sheet holders links object page n limit w₀ i₀ w i = n - i
 
 loop-holds : tie.Need-loop-holds Inv-loop μ-loop
 loop-holds c =

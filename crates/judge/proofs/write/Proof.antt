@@ -33,7 +33,7 @@ lacking-bytes-requires c κs =
     let a = c .before .before .before .before .args in
     let o = c .before .before .before .opening in
     let z : 0 ≡ lowest (opening (storeOf (a .sheet .now)) (a .pool) (a .object)) = omega (arith, o .ensures, c .before .before .if1 .left) in
-    (c .before .before .before .before .pre .0, c .before .before .before .before .pre .1, ltb-false 1073741824 (a .offset + a .n) (sym (c .before .past-end .ensures) ∙ c .if2 .left))
+    (c .before .before .before .before .pre .0, c .before .before .before .before .pre .1, ltb-false 1073741824 (a .offset + a .n) (sym (c .before .past-end .ensures) ∙ c .if2 .left), c .before .before .before .before .pre .2)
 
 returns-3 : tie.Need-returns-3
 returns-3 c =
