@@ -58,16 +58,16 @@ module _ (q : Bool) (s : Store) (x : List ℕ) (c : Call) where
   unfolding verdict
   verdict-spoiled f = rw f
 
--- what the examination of store s has told a call: the test, and the store in its sheet
-pub record Told (s : Store) (q : Bool) (w l : List ℕ) : Type 0 where
+-- what the examination of store s tells the call: whether it is sound (q), and then the store is in its sheet
+pub record Tried (s : Store) (q : Bool) (w l : List ℕ) : Type 0 where
   pub test : q ≡ sound? s
   pub sized : Sized s
   pub enters : q ≡ true → Entered s w l
 
-pub told : {s : Store} {q : Bool} {w l : List ℕ} → (q ≡ sound? s) × Sized s × (q ≡ true → Examined s w l) → Told s q w l
-told {s} {q} {w} {l} e = record { test = e .0; sized = e .1; enters = λ t. entered s w l (sym (e .0) ∙ t) (e .2 t) }
+pub tried : {s : Store} {q : Bool} {w l : List ℕ} → (q ≡ sound? s) × Sized s × (q ≡ true → Examined s w l) → Tried s q w l
+tried {s} {q} {w} {l} e = record { test = e .0; sized = e .1; enters = λ t. entered s w l (sym (e .0) ∙ t) (e .2 t) }
 
-module _ {s : Store} {q : Bool} {w l : List ℕ} (T : Told s q w l) where
+module _ {s : Store} {q : Bool} {w l : List ℕ} (T : Tried s q w l) where
   -- the number is the refusal of the store that was examined
   pub refuses : {k : ℕ} (x : List ℕ) (c : Call) → k ≡ verdict q (storeOf w) x c → k ≡ refusal s x c
   unfolding verdict

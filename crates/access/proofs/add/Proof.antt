@@ -3,7 +3,7 @@ use mathlib.Core.Path.{_≡_, refl, sym, _∙_}
 use Rattle.refuse.specs.Refuse.{refusal}
 use Rattle.book.specs.Book.{add, added}
 use Rattle.calls.specs.With.{with-refused}
-use Rattle.enter.specs.Enter.{accepted, refuses, told}
+use Rattle.enter.specs.Enter.{accepted, refuses, tried}
 use Rattle.access.specs.Enters.{add-enters}
 use Rattle.access.specs.Finish.{add-done, handed}
 use Rattle.closing.specs.Closed.{closed-parts}
@@ -16,18 +16,18 @@ examine-requires : tie.Need-examine-requires
 examine-requires c κs = search needs
 
 add-requires : tie.Need-add-requires
-add-requires c κs = λ t. told (c .before .examine .ensures) .enters t .sound
+add-requires c κs = λ t. tried (c .before .examine .ensures) .enters t .sound
 
 returns : tie.Need-returns
 returns c =
     let a = c .before .before .before .before .before .before .before .before .args in
-    (with-refused (add (a .object) (a .page .0)) (a .s) (a .pool .now) (added 0) (c .before .add .result) (c .if1 .taken) (refuses (told (c .before .before .before .examine .ensures)) _ _ (c .before .add .ensures (a .pool .now) refl)) (λ j. refl), λ _. refl)
+    (with-refused (add (a .object) (a .page .0)) (a .s) (a .pool .now) (added 0) (c .before .add .result) (c .if1 .taken) (refuses (tried (c .before .before .before .examine .ensures)) _ _ (c .before .add .ensures (a .pool .now) refl)) (λ j. refl), λ _. refl)
 
 add-page-requires : tie.Need-add-page-requires
 add-page-requires c κs =
     let a = c .before .before .before .before .before .before .before .before .before .before .args in
     let e = c .before .before .before .add .ensures in
-    let T = told (c .before .before .before .before .before .examine .ensures) in
+    let T = tried (c .before .before .before .before .before .examine .ensures) in
     let k : c .before .before .before .add .result ≡ 0 = omega (arith, c .before .before .if1 .left) in
     let E = accepted T _ _ (e (a .pool .now) refl) k in
     let r : 0 ≡ refusal (a .s) (a .pool .now) (add (a .object) (a .page .0)) = sym k ∙ refuses T _ _ (e (a .pool .now) refl) in
@@ -60,7 +60,7 @@ returns-2 c =
     let b = c .before .before .before .before .before .before .before .before .before .before .before .before in
     let a = b .before .before .before .before .before .before .before .before .before .before .before .before .before .args in
     let e = b .before .before .before .before .before .before .add .ensures in
-    let T = told (b .before .before .before .before .before .before .before .before .examine .ensures) in
+    let T = tried (b .before .before .before .before .before .before .before .before .examine .ensures) in
     let k : b .before .before .before .before .before .before .add .result ≡ 0 = omega (arith, b .before .before .before .before .before .if1 .left) in
     let E = accepted T _ _ (e (a .pool .now) refl) k in
     let r : 0 ≡ refusal (a .s) (a .pool .now) (add (a .object) (a .page .0)) = sym k ∙ refuses T _ _ (e (a .pool .now) refl) in

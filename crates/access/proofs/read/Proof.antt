@@ -4,7 +4,7 @@ use lib.ListN.{length}
 use Rattle.refuse.specs.Refuse.{refusal}
 use Rattle.book.specs.Book.{read, bytes}
 use Rattle.calls.specs.With.{with-refused}
-use Rattle.enter.specs.Enter.{accepted, entered-charted, refuses, told}
+use Rattle.enter.specs.Enter.{accepted, entered-charted, refuses, tried}
 use Rattle.access.specs.Enters.{read-enters}
 use Rattle.access.specs.Finish.{read-done}
 use native.Mathlib.Omega.{arith}
@@ -16,18 +16,18 @@ examine-requires : tie.Need-examine-requires
 examine-requires c κs = search needs
 
 read-requires : tie.Need-read-requires
-read-requires c κs = λ t. told (c .before .examine .ensures) .enters t .sound
+read-requires c κs = λ t. tried (c .before .examine .ensures) .enters t .sound
 
 returns : tie.Need-returns
 returns c =
     let a = c .before .before .before .before .before .before .before .before .before .args in
-    (with-refused (read (a .object) (a .offset) (length (a .buf .now))) (a .s) (a .pool .now) (bytes (a .buf .now)) (c .before .read .result) (c .if1 .taken) (refuses (told (c .before .before .before .examine .ensures)) _ _ (c .before .read .ensures (a .pool .now) refl)) (λ j. refl), λ _. refl)
+    (with-refused (read (a .object) (a .offset) (length (a .buf .now))) (a .s) (a .pool .now) (bytes (a .buf .now)) (c .before .read .result) (c .if1 .taken) (refuses (tried (c .before .before .before .examine .ensures)) _ _ (c .before .read .ensures (a .pool .now) refl)) (λ j. refl), λ _. refl)
 
 read-pages-requires : tie.Need-read-pages-requires
 read-pages-requires c κs =
     let a = c .before .before .before .before .before .before .before .before .before .before .before .before .args in
     let e = c .before .before .before .before .read .ensures in
-    let T = told (c .before .before .before .before .before .before .examine .ensures) in
+    let T = tried (c .before .before .before .before .before .before .examine .ensures) in
     let k : c .before .before .before .before .read .result ≡ 0 = omega (arith, c .before .before .before .if1 .left) in
     let E = accepted T _ _ (e (a .pool .now) refl) k in
     let r : 0 ≡ refusal (a .s) (a .pool .now) (read (a .object) (a .offset) (length (a .buf .now))) = sym k ∙ refuses T _ _ (e (a .pool .now) refl) in
@@ -41,7 +41,7 @@ returns-2 : tie.Need-returns-2
 returns-2 c =
     let a = c .before .before .before .before .before .before .before .before .before .before .before .before .before .before .before .args in
     let e = c .before .before .before .before .before .before .before .read .ensures in
-    let T = told (c .before .before .before .before .before .before .before .before .before .examine .ensures) in
+    let T = tried (c .before .before .before .before .before .before .before .before .before .examine .ensures) in
     let k : c .before .before .before .before .before .before .before .read .result ≡ 0 = omega (arith, c .before .before .before .before .before .before .if1 .left) in
     let E = accepted T _ _ (e (a .pool .now) refl) k in
     let r : 0 ≡ refusal (a .s) (a .pool .now) (read (a .object) (a .offset) (length (a .buf .now))) = sym k ∙ refuses T _ _ (e (a .pool .now) refl) in

@@ -5,7 +5,7 @@ use lib.ListN.{length}
 use Rattle.refuse.specs.Refuse.{refusal}
 use Rattle.book.specs.Book.{write, done}
 use Rattle.calls.specs.With.{with-refused}
-use Rattle.enter.specs.Enter.{accepted, entered-charted, refuses, told}
+use Rattle.enter.specs.Enter.{accepted, entered-charted, refuses, tried}
 use Rattle.writes.specs.Going.{going-end, rest-room, rest-written}
 use Rattle.access.specs.Enters.{write-enters}
 use Rattle.access.specs.Finish.{write-done, write-stays, handed}
@@ -19,18 +19,18 @@ examine-requires : tie.Need-examine-requires
 examine-requires c κs = search needs
 
 write-requires : tie.Need-write-requires
-write-requires c κs = λ t. let E = told (c .before .before .examine .ensures) .enters t in (E .sound, E .framed)
+write-requires c κs = λ t. let E = tried (c .before .before .examine .ensures) .enters t in (E .sound, E .framed)
 
 returns : tie.Need-returns
 returns c =
     let a = c .before .before .before .before .before .before .before .before .before .before .args in
-    with-refused (write (a .object) (a .offset) (a .src .now)) (a .s) (a .pool .now) done (c .before .write .result) (c .if1 .taken) (refuses (told (c .before .before .before .before .examine .ensures)) _ _ (c .before .write .ensures (a .pool .now) (a .src .now) refl refl)) (λ j. refl)
+    with-refused (write (a .object) (a .offset) (a .src .now)) (a .s) (a .pool .now) done (c .before .write .result) (c .if1 .taken) (refuses (tried (c .before .before .before .before .examine .ensures)) _ _ (c .before .write .ensures (a .pool .now) (a .src .now) refl refl)) (λ j. refl)
 
 overwrite-pages-requires : tie.Need-overwrite-pages-requires
 overwrite-pages-requires c κs =
     let a = c .before .before .before .before .before .before .before .before .before .before .before .before .before .args in
     let e = c .before .before .before .before .write .ensures in
-    let T = told (c .before .before .before .before .before .before .before .examine .ensures) in
+    let T = tried (c .before .before .before .before .before .before .before .examine .ensures) in
     let k : c .before .before .before .before .write .result ≡ 0 = omega (arith, c .before .before .before .if1 .left) in
     let E = accepted T _ _ (e (a .pool .now) (a .src .now) refl refl) k in
     let r : 0 ≡ refusal (a .s) (a .pool .now) (write (a .object) (a .offset) (a .src .now)) = sym k ∙ refuses T _ _ (e (a .pool .now) (a .src .now) refl refl) in
@@ -44,7 +44,7 @@ returns-2 : tie.Need-returns-2
 returns-2 c =
     let a = c .before .before .before .before .before .before .before .before .before .before .before .before .before .before .before .before .before .args in
     let e = c .before .before .before .before .before .before .before .before .write .ensures in
-    let T = told (c .before .before .before .before .before .before .before .before .before .before .before .examine .ensures) in
+    let T = tried (c .before .before .before .before .before .before .before .before .before .before .before .examine .ensures) in
     let k : c .before .before .before .before .before .before .before .before .write .result ≡ 0 = omega (arith, c .before .before .before .before .before .before .before .if1 .left) in
     let E = accepted T _ _ (e (a .pool .now) (a .src .now) refl refl) k in
     let r : 0 ≡ refusal (a .s) (a .pool .now) (write (a .object) (a .offset) (a .src .now)) = sym k ∙ refuses T _ _ (e (a .pool .now) (a .src .now) refl refl) in
@@ -57,7 +57,7 @@ add-write-pages : tie.Need-add-write-pages
 add-write-pages c =
     let a = c .before .before .before .before .before .before .before .before .before .before .before .before .before .before .before .before .before .before .before .args in
     let e = c .before .before .before .before .before .before .before .before .before .before .write .ensures in
-    let T = told (c .before .before .before .before .before .before .before .before .before .before .before .before .before .examine .ensures) in
+    let T = tried (c .before .before .before .before .before .before .before .before .before .before .before .before .before .examine .ensures) in
     let k : c .before .before .before .before .before .before .before .before .before .before .write .result ≡ 0 = omega (arith, c .before .before .before .before .before .before .before .before .before .if1 .left) in
     let E = accepted T _ _ (e (a .pool .now) (a .src .now) refl refl) k in
     let r : 0 ≡ refusal (a .s) (a .pool .now) (write (a .object) (a .offset) (a .src .now)) = sym k ∙ refuses T _ _ (e (a .pool .now) (a .src .now) refl refl) in
@@ -79,7 +79,7 @@ write-pages-requires : tie.Need-write-pages-requires
 write-pages-requires c κs =
     let a = c .before .before .before .before .before .before .before .before .before .before .before .before .before .before .before .before .before .before .before .before .args in
     let e = c .before .before .before .before .before .before .before .before .before .before .before .write .ensures in
-    let T = told (c .before .before .before .before .before .before .before .before .before .before .before .before .before .before .examine .ensures) in
+    let T = tried (c .before .before .before .before .before .before .before .before .before .before .before .before .before .before .examine .ensures) in
     let k : c .before .before .before .before .before .before .before .before .before .before .before .write .result ≡ 0 = omega (arith, c .before .before .before .before .before .before .before .before .before .before .if1 .left) in
     let E = accepted T _ _ (e (a .pool .now) (a .src .now) refl refl) k in
     let r : 0 ≡ refusal (a .s) (a .pool .now) (write (a .object) (a .offset) (a .src .now)) = sym k ∙ refuses T _ _ (e (a .pool .now) (a .src .now) refl refl) in
@@ -115,7 +115,7 @@ returns-3 c =
     let b = c .before .before .before .before .before .before .before .before .before .before .before .before in
     let a = b .before .before .before .before .before .before .before .before .before .before .before .before .before .before .before .before .before .before .before .before .before .before .before .args in
     let e = b .before .before .before .before .before .before .before .before .before .before .before .before .before .before .write .ensures in
-    let T = told (b .before .before .before .before .before .before .before .before .before .before .before .before .before .before .before .before .before .examine .ensures) in
+    let T = tried (b .before .before .before .before .before .before .before .before .before .before .before .before .before .before .before .before .before .examine .ensures) in
     let k : b .before .before .before .before .before .before .before .before .before .before .before .before .before .before .write .result ≡ 0 = omega (arith, b .before .before .before .before .before .before .before .before .before .before .before .before .before .if1 .left) in
     let E = accepted T _ _ (e (a .pool .now) (a .src .now) refl refl) k in
     let r : 0 ≡ refusal (a .s) (a .pool .now) (write (a .object) (a .offset) (a .src .now)) = sym k ∙ refuses T _ _ (e (a .pool .now) (a .src .now) refl refl) in

@@ -4,7 +4,7 @@ use lib.ListN.{take}
 use Rattle.book.specs.Book.{counts, numbers}
 use Rattle.places.specs.Places.{usedCount}
 use Rattle.store.specs.declared.Store.{Store}
-use Rattle.enter.specs.Enter.{counts-none, spoiled, told}
+use Rattle.enter.specs.Enter.{counts-none, spoiled, tried}
 use Rattle.calls.specs.Calls.{did-refused}
 use Rattle.calls.specs.Each.{counts-done}
 use native.Mathlib.Omega.{arith}
@@ -17,7 +17,7 @@ examine-requires c κs = search needs
 
 used-count-requires : tie.Need-used-count-requires
 used-count-requires c κs =
-    let T = told (c .before .before .examine .ensures) in
+    let T = tried (c .before .before .examine .ensures) in
     let E = T .enters (c .before .if1 .taken) in
     let S = rw (E .store) at (E .sound) in
     omega (arith, S .few-frames)
@@ -25,7 +25,7 @@ used-count-requires c κs =
 returns : tie.Need-returns
 returns c =
     let a = c .before .before .before .before .before .before .before .args in
-    let T = told (c .before .before .before .examine .ensures) in
+    let T = tried (c .before .before .before .examine .ensures) in
     let h = sym (T .test) ∙ c .before .before .if1 .taken in
     let e : c .used-count .result ≡ usedCount (take (a .s .frames) (a .s .places)) =
     c .used-count .ensures ∙ ap (λ (t : Store). usedCount (take (a .s .frames) (t .places))) (T .enters (c .before .before .if1 .taken) .store) in
@@ -34,7 +34,7 @@ returns c =
 returns-2 : tie.Need-returns-2
 returns-2 c =
     let a = c .before .before .before .before .before .args in
-    let T = told (c .before .examine .ensures) in
+    let T = tried (c .before .examine .ensures) in
     let h = sym (T .test) ∙ c .if1 .left in
     (did-refused counts (a .s) (numbers 0 0) 1 (omega arith) (λ x. spoiled (a .s) h x counts) (λ j. refl), λ _. (refl, refl))
 

@@ -9,7 +9,7 @@ use Rattle.table.specs.Table.{rangedOf}
 use Rattle.store.specs.declared.Store.{Store}
 use Rattle.store.specs.Abs.{used}
 use Rattle.refuse.specs.Refuse.{refusal}
-use Rattle.enter.specs.Enter.{accepted, refuses, told}
+use Rattle.enter.specs.Enter.{accepted, refuses, tried}
 use Rattle.calls.specs.Calls.{did-refused}
 use Rattle.calls.specs.Drop.{Dropped, drop-name, drop-room, drop-done}
 use native.Mathlib.Omega.{arith}
@@ -21,20 +21,20 @@ examine-requires : tie.Need-examine-requires
 examine-requires c κs = search needs
 
 drop-object-requires : tie.Need-drop-object-requires
-drop-object-requires c κs = λ t. told (c .before .examine .ensures) .enters t .sound
+drop-object-requires c κs = λ t. tried (c .before .examine .ensures) .enters t .sound
 
 returns : tie.Need-returns
 returns c =
     let a = c .before .before .before .before .before .before .before .args in
     let q = c .before .drop-object in
-    let T = told (c .before .before .before .examine .ensures) in
+    let T = tried (c .before .before .before .examine .ensures) in
     did-refused (dropObject (a .object)) (a .s) done (q .result) (c .if1 .taken) (λ x. refuses T x _ (q .ensures x)) (λ j. refl)
 
 without-object-requires : tie.Need-without-object-requires
 without-object-requires c κs =
     let a = c .before .before .before .before .before .before .before .before .args in
     let q = c .before .before .drop-object in
-    let T = told (c .before .before .before .before .examine .ensures) in
+    let T = tried (c .before .before .before .before .examine .ensures) in
     let k : q .result ≡ 0 = omega (arith, c .before .if1 .left) in
     let r : (x : List ℕ) → 0 ≡ refusal (a .s) x (dropObject (a .object)) = λ x. sym k ∙ refuses T x _ (q .ensures x) in
     let E = accepted T [] _ (q .ensures []) k in
@@ -46,7 +46,7 @@ returns-2 : tie.Need-returns-2
 returns-2 c =
     let a = c .before .before .before .before .before .before .before .before .before .args in
     let q = c .before .before .before .drop-object in
-    let T = told (c .before .before .before .before .before .examine .ensures) in
+    let T = tried (c .before .before .before .before .before .examine .ensures) in
     let k : q .result ≡ 0 = omega (arith, c .before .before .if1 .left) in
     let r : (x : List ℕ) → 0 ≡ refusal (a .s) x (dropObject (a .object)) = λ x. sym k ∙ refuses T x _ (q .ensures x) in
     let E = accepted T [] _ (q .ensures []) k in

@@ -8,7 +8,7 @@ use Rattle.ranges.specs.Range.{line}
 use Rattle.store.specs.declared.Store.{Store}
 use Rattle.look.specs.Look.{located, seen}
 use Rattle.refuse.specs.Refuse.{refusal}
-use Rattle.enter.specs.Enter.{accepted, entered-charted, refuses, told}
+use Rattle.enter.specs.Enter.{accepted, entered-charted, refuses, tried}
 use Rattle.calls.specs.Calls.{did-refused}
 use Rattle.calls.specs.Each.{look-done, look-page}
 use native.Mathlib.Omega.{arith}
@@ -20,20 +20,20 @@ examine-requires : tie.Need-examine-requires
 examine-requires c κs = search needs
 
 look-up-requires : tie.Need-look-up-requires
-look-up-requires c κs = λ t. told (c .before .examine .ensures) .enters t .sound
+look-up-requires c κs = λ t. tried (c .before .examine .ensures) .enters t .sound
 
 returns : tie.Need-returns
 returns c =
     let a = c .before .before .before .before .before .before .before .args in
     let q = c .before .look-up in
-    let T = told (c .before .before .before .examine .ensures) in
+    let T = tried (c .before .before .before .examine .ensures) in
     (did-refused (lookUp (a .object) (a .page .0)) (a .s) (state absent) (q .result) (c .if1 .taken) (λ x. refuses T x _ (q .ensures x)) (λ j. refl), λ _. refl)
 
 line-of-requires : tie.Need-line-of-requires
 line-of-requires c κs =
     let a = c .before .before .before .before .before .before .before .args in
     let q = c .before .look-up in
-    let T = told (c .before .before .before .examine .ensures) in
+    let T = tried (c .before .before .before .examine .ensures) in
     let k : q .result ≡ 0 = omega (arith, c .if1 .left) in
     let r : (x : List ℕ) → 0 ≡ refusal (a .s) x (lookUp (a .object) (a .page .0)) = λ x. sym k ∙ refuses T x _ (q .ensures x) in
     omega (arith, look-page (a .s) (a .object) (a .page .0) r)
@@ -42,7 +42,7 @@ state-of-requires : tie.Need-state-of-requires
 state-of-requires c κs =
     let a = c .before .before .before .before .before .before .before .before .before .before .args in
     let q = c .before .before .before .before .look-up in
-    let T = told (c .before .before .before .before .before .before .examine .ensures) in
+    let T = tried (c .before .before .before .before .before .before .examine .ensures) in
     let k : q .result ≡ 0 = omega (arith, c .before .before .before .if1 .left) in
     let r : (x : List ℕ) → 0 ≡ refusal (a .s) x (lookUp (a .object) (a .page .0)) = λ x. sym k ∙ refuses T x _ (q .ensures x) in
     (entered-charted (a .s) _ _ (accepted T [] _ (q .ensures []) k), omega (arith, c .before .before .line-of .ensures, look-page (a .s) (a .object) (a .page .0) r))
@@ -51,7 +51,7 @@ returns-2 : tie.Need-returns-2
 returns-2 c =
     let a = c .before .before .before .before .before .before .before .before .before .before .before .args in
     let q = c .before .before .before .before .before .look-up in
-    let T = told (c .before .before .before .before .before .before .before .examine .ensures) in
+    let T = tried (c .before .before .before .before .before .before .before .examine .ensures) in
     let k : q .result ≡ 0 = omega (arith, c .before .before .before .before .if1 .left) in
     let r : (x : List ℕ) → 0 ≡ refusal (a .s) x (lookUp (a .object) (a .page .0)) = λ x. sym k ∙ refuses T x _ (q .ensures x) in
     let e : c .state-of .result ≡ seen (a .s) (located (a .s) (line (a .object) (a .page .0))) =

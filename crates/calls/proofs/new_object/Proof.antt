@@ -4,7 +4,7 @@ use mathlib.Core.List.{List}
 use Prim.Native.Nat.{ℕ}
 use Rattle.book.specs.Book.{newObject, done}
 use Rattle.refuse.specs.Refuse.{refusal}
-use Rattle.enter.specs.Enter.{refuses, told}
+use Rattle.enter.specs.Enter.{refuses, tried}
 use Rattle.calls.specs.Calls.{did-refused}
 use Rattle.calls.specs.Each.{new-done, new-name}
 use native.Mathlib.Omega.{arith}
@@ -16,20 +16,20 @@ examine-requires : tie.Need-examine-requires
 examine-requires c κs = search needs
 
 new-object-requires : tie.Need-new-object-requires
-new-object-requires c κs = λ t. told (c .before .examine .ensures) .enters t .sound
+new-object-requires c κs = λ t. tried (c .before .examine .ensures) .enters t .sound
 
 returns : tie.Need-returns
 returns c =
     let a = c .before .before .before .before .before .before .before .args in
     let q = c .before .new-object in
-    let T = told (c .before .before .before .examine .ensures) in
+    let T = tried (c .before .before .before .examine .ensures) in
     did-refused (newObject (a .object)) (a .s) done (q .result) (c .if1 .taken) (λ x. refuses T x _ (q .ensures x)) (λ j. refl)
 
 shl-t16 : tie.Need-shl-t16
 shl-t16 c =
     let a = c .before .before .before .before .before .before .before .before .before .before .args in
     let q = c .before .before .before .before .new-object in
-    let T = told (c .before .before .before .before .before .before .examine .ensures) in
+    let T = tried (c .before .before .before .before .before .before .examine .ensures) in
     let k : q .result ≡ 0 = omega (arith, c .before .before .before .if1 .left) in
     let r : (x : List ℕ) → 0 ≡ refusal (a .s) x (newObject (a .object)) = λ x. sym k ∙ refuses T x _ (q .ensures x) in
     new-name (a .s) (a .object) r
@@ -38,7 +38,7 @@ returns-2 : tie.Need-returns-2
 returns-2 c =
     let a = c .before .before .before .before .before .before .before .before .before .before .before .args in
     let q = c .before .before .before .before .before .new-object in
-    let T = told (c .before .before .before .before .before .before .before .examine .ensures) in
+    let T = tried (c .before .before .before .before .before .before .before .examine .ensures) in
     let k : q .result ≡ 0 = omega (arith, c .before .before .before .before .if1 .left) in
     let r : (x : List ℕ) → 0 ≡ refusal (a .s) x (newObject (a .object)) = λ x. sym k ∙ refuses T x _ (q .ensures x) in
     new-done (a .s) (T .sized) (a .object) r

@@ -4,7 +4,7 @@ use Prim.Native.Nat.{_/_}
 use Rattle.book.specs.Book.{shadow, done}
 use Rattle.refuse.specs.Refuse.{refusal}
 use Rattle.calls.specs.With.{with-refused}
-use Rattle.enter.specs.Enter.{accepted, refuses, told}
+use Rattle.enter.specs.Enter.{accepted, refuses, tried}
 use Rattle.pages.specs.Any.{zeros}
 use Rattle.access.specs.Finish.{handed}
 use Rattle.copies.specs.Enters.{shadow-enters, shadow-done}
@@ -17,12 +17,12 @@ examine-requires : tie.Need-examine-requires
 examine-requires c κs = search needs
 
 shadow-requires : tie.Need-shadow-requires
-shadow-requires c κs = λ t. told (c .before .examine .ensures) .enters t .sound
+shadow-requires c κs = λ t. tried (c .before .examine .ensures) .enters t .sound
 
 returns : tie.Need-returns
 returns c =
     let a = c .before .before .before .before .before .before .before .before .args in
-    with-refused (shadow (a .source) (a .from) (a .object) (a .to) (a .n)) (a .s) (a .pool .now) done (c .before .shadow .result) (c .if1 .taken) (refuses (told (c .before .before .before .examine .ensures)) _ _ (c .before .shadow .ensures (a .pool .now) refl)) (λ j. refl)
+    with-refused (shadow (a .source) (a .from) (a .object) (a .to) (a .n)) (a .s) (a .pool .now) done (c .before .shadow .result) (c .if1 .taken) (refuses (tried (c .before .before .before .examine .ensures)) _ _ (c .before .shadow .ensures (a .pool .now) refl)) (λ j. refl)
 
 from-offset-requires : tie.Need-from-offset-requires
 from-offset-requires c κs = search needs
@@ -34,7 +34,7 @@ copy-range-to-object-tree-requires : tie.Need-copy-range-to-object-tree-requires
 copy-range-to-object-tree-requires c κs =
     let a = c .before .before .before .before .before .before .before .before .before .before .before .args in
     let e = c .before .before .before .before .shadow .ensures in
-    let T = told (c .before .before .before .before .before .before .examine .ensures) in
+    let T = tried (c .before .before .before .before .before .before .examine .ensures) in
     let k : c .before .before .before .before .shadow .result ≡ 0 = omega (arith, c .before .before .before .if1 .left) in
     let E = accepted T _ _ (e (a .pool .now) refl) k in
     let r : 0 ≡ refusal (a .s) (a .pool .now) (shadow (a .source) (a .from) (a .object) (a .to) (a .n)) = sym k ∙ refuses T _ _ (e (a .pool .now) refl) in
@@ -47,7 +47,7 @@ closed-requires : tie.Need-closed-requires
 closed-requires c κs =
     let a = c .before .before .before .before .before .before .before .before .before .before .before .before .before .args in
     let e = c .before .before .before .before .before .before .shadow .ensures in
-    let T = told (c .before .before .before .before .before .before .before .before .examine .ensures) in
+    let T = tried (c .before .before .before .before .before .before .before .before .examine .ensures) in
     let k : c .before .before .before .before .before .before .shadow .result ≡ 0 = omega (arith, c .before .before .before .before .before .if1 .left) in
     let E = accepted T _ _ (e (a .pool .now) refl) k in
     let r : 0 ≡ refusal (a .s) (a .pool .now) (shadow (a .source) (a .from) (a .object) (a .to) (a .n)) = sym k ∙ refuses T _ _ (e (a .pool .now) refl) in
@@ -62,7 +62,7 @@ returns-2 : tie.Need-returns-2
 returns-2 c =
     let a = c .before .before .before .before .before .before .before .before .before .before .before .before .before .before .args in
     let e = c .before .before .before .before .before .before .before .shadow .ensures in
-    let T = told (c .before .before .before .before .before .before .before .before .before .examine .ensures) in
+    let T = tried (c .before .before .before .before .before .before .before .before .before .examine .ensures) in
     let k : c .before .before .before .before .before .before .before .shadow .result ≡ 0 = omega (arith, c .before .before .before .before .before .before .if1 .left) in
     let E = accepted T _ _ (e (a .pool .now) refl) k in
     let r : 0 ≡ refusal (a .s) (a .pool .now) (shadow (a .source) (a .from) (a .object) (a .to) (a .n)) = sym k ∙ refuses T _ _ (e (a .pool .now) refl) in

@@ -4,7 +4,7 @@ use Rattle.copies.specs.Enters.{equal-enters, bytes-enters, copy-done}
 use mathlib.Core.Path.{_≡_, refl, sym, _∙_}
 use Rattle.refuse.specs.Refuse.{refusal}
 use Rattle.calls.specs.With.{with-refused}
-use Rattle.enter.specs.Enter.{accepted, refuses, told}
+use Rattle.enter.specs.Enter.{accepted, refuses, tried}
 use Rattle.access.specs.Finish.{handed}
 use Rattle.copies.specs.Room.{CopyRoom}
 use Rattle.closing.specs.Closed.{closed-parts}
@@ -17,18 +17,18 @@ examine-requires : tie.Need-examine-requires
 examine-requires c κs = search needs
 
 copy-requires : tie.Need-copy-requires
-copy-requires c κs = λ t. let E = told (c .before .before .examine .ensures) .enters t in (E .sound, E .framed)
+copy-requires c κs = λ t. let E = tried (c .before .before .examine .ensures) .enters t in (E .sound, E .framed)
 
 returns : tie.Need-returns
 returns c =
     let a = c .before .before .before .before .before .before .before .before .before .args in
-    with-refused (copy (a .source) (a .from) (a .object) (a .to) (a .n)) (a .s) (a .pool .now) done (c .before .copy .result) (c .if1 .taken) (refuses (told (c .before .before .before .before .examine .ensures)) _ _ (c .before .copy .ensures (a .pool .now) refl)) (λ j. refl)
+    with-refused (copy (a .source) (a .from) (a .object) (a .to) (a .n)) (a .s) (a .pool .now) done (c .before .copy .result) (c .if1 .taken) (refuses (tried (c .before .before .before .before .examine .ensures)) _ _ (c .before .copy .ensures (a .pool .now) refl)) (λ j. refl)
 
 copy-span-requires : tie.Need-copy-span-requires
 copy-span-requires c κs =
     let a = c .before .before .before .before .before .before .before .before .before .before .before .args in
     let e = c .before .before .before .copy .ensures in
-    let T = told (c .before .before .before .before .before .before .examine .ensures) in
+    let T = tried (c .before .before .before .before .before .before .examine .ensures) in
     let k : c .before .before .before .copy .result ≡ 0 = omega (arith, c .before .before .if1 .left) in
     let E = accepted T _ _ (e (a .pool .now) refl) k in
     let r : 0 ≡ refusal (a .s) (a .pool .now) (copy (a .source) (a .from) (a .object) (a .to) (a .n)) = sym k ∙ refuses T _ _ (e (a .pool .now) refl) in
@@ -64,7 +64,7 @@ returns-2 c =
     let b = c .before .before .before .before .before .before .before .before .before .before .before .before in
     let a = b .before .before .before .before .before .before .before .before .before .before .before .before .before .before .args in
     let e = b .before .before .before .before .before .before .copy .ensures in
-    let T = told (b .before .before .before .before .before .before .before .before .before .examine .ensures) in
+    let T = tried (b .before .before .before .before .before .before .before .before .before .examine .ensures) in
     let k : b .before .before .before .before .before .before .copy .result ≡ 0 = omega (arith, b .before .before .before .before .before .if1 .left) in
     let E = accepted T _ _ (e (a .pool .now) refl) k in
     let r : 0 ≡ refusal (a .s) (a .pool .now) (copy (a .source) (a .from) (a .object) (a .to) (a .n)) = sym k ∙ refuses T _ _ (e (a .pool .now) refl) in

@@ -12,7 +12,7 @@ use Rattle.look.specs.declared.PageAt.the-variants.{Absent, Present}
 use Rattle.look.specs.Look.{located}
 use Rattle.look.specs.Found.{frameIs}
 use Rattle.refuse.specs.Refuse.{refusal}
-use Rattle.enter.specs.Enter.{entered-charted, refuses, told}
+use Rattle.enter.specs.Enter.{entered-charted, refuses, tried}
 use Rattle.view.specs.Showing.{refused-none, accepts-length, frame-shown, frame-inside}
 use native.Mathlib.Omega.{arith}
 use borrow.Author.Needs.{needs}
@@ -23,20 +23,20 @@ examine-requires : tie.Need-examine-requires
 examine-requires c κs = search needs
 
 show-requires : tie.Need-show-requires
-show-requires c κs = λ t. told (c .before .examine .ensures) .enters t .sound
+show-requires c κs = λ t. tried (c .before .examine .ensures) .enters t .sound
 
 returns : tie.Need-returns
 returns c =
     let a = c .before .before .before .before .before .before .before .args in
     let q = c .before .show in
-    let T = told (c .before .before .before .examine .ensures) in
+    let T = tried (c .before .before .before .examine .ensures) in
     (λ x e. refused-none (a .s) x (a .object) (a .page .0) (q .result) (c .if1 .taken) (refuses T x _ (q .ensures x e)), tt)
 
 line-of-requires : tie.Need-line-of-requires
 line-of-requires c κs =
     let a = c .before .before .before .before .before .before .before .args in
     let q = c .before .show in
-    let T = told (c .before .before .before .examine .ensures) in
+    let T = tried (c .before .before .before .examine .ensures) in
     let k : q .result ≡ 0 = omega (arith, c .if1 .left) in
     let r : (x : List ℕ) → length x ≡ a .pool → 0 ≡ refusal (a .s) x (show (a .object) (a .page .0)) = λ x e. sym k ∙ refuses T x _ (q .ensures x e) in
     let A = accepts-length (a .s) (a .pool) (a .object) (a .page .0) r in
@@ -46,7 +46,7 @@ locate-requires : tie.Need-locate-requires
 locate-requires c κs =
     let a = c .before .before .before .before .before .before .before .before .before .before .args in
     let q = c .before .before .before .before .show in
-    let T = told (c .before .before .before .before .before .before .examine .ensures) in
+    let T = tried (c .before .before .before .before .before .before .examine .ensures) in
     let k : q .result ≡ 0 = omega (arith, c .before .before .before .if1 .left) in
     let r : (x : List ℕ) → length x ≡ a .pool → 0 ≡ refusal (a .s) x (show (a .object) (a .page .0)) = λ x e. sym k ∙ refuses T x _ (q .ensures x e) in
     let A = accepts-length (a .s) (a .pool) (a .object) (a .page .0) r in
@@ -63,7 +63,7 @@ returns-2 : tie.Need-returns-2
 returns-2 c =
     let a = c .before .before .before .before .before .before .before .before .before .before .before .before .before .args in
     let q = c .before .before .before .before .before .before .before .show in
-    let T = told (c .before .before .before .before .before .before .before .before .before .examine .ensures) in
+    let T = tried (c .before .before .before .before .before .before .before .before .before .examine .ensures) in
     let k : q .result ≡ 0 = omega (arith, c .before .before .before .before .before .before .if1 .left) in
     let r : (x : List ℕ) → length x ≡ a .pool → 0 ≡ refusal (a .s) x (show (a .object) (a .page .0)) = λ x e. sym k ∙ refuses T x _ (q .ensures x e) in
     let A = accepts-length (a .s) (a .pool) (a .object) (a .page .0) r in
@@ -76,7 +76,7 @@ returns-3 : tie.Need-returns-3
 returns-3 c =
     let a = c .before .before .before .before .before .before .before .before .before .before .before .before .before .before .args in
     let q = c .before .before .before .before .before .before .before .before .show in
-    let T = told (c .before .before .before .before .before .before .before .before .before .before .examine .ensures) in
+    let T = tried (c .before .before .before .before .before .before .before .before .before .before .examine .ensures) in
     let k : q .result ≡ 0 = omega (arith, c .before .before .before .before .before .before .before .if1 .left) in
     let r : (x : List ℕ) → length x ≡ a .pool → 0 ≡ refusal (a .s) x (show (a .object) (a .page .0)) = λ x e. sym k ∙ refuses T x _ (q .ensures x e) in
     let A = accepts-length (a .s) (a .pool) (a .object) (a .page .0) r in
