@@ -10,9 +10,9 @@ ghost use Rattle.calls.specs.With.{DidWith};
 
 // The frame of an added page; 0 where the call is refused.
 pub struct Added {
-    pub number: u8,
-    pub frame: usize,
     pub store: Store,
+    pub frame: usize,
+    pub number: u8,
 }
 
 pub fn add(s: Store, pool: &mut [u8], object: u32, page: PageNumber) -> Added
@@ -21,28 +21,31 @@ pub fn add(s: Store, pool: &mut [u8], object: u32, page: PageNumber) -> Added
     let mut sheet = [0u64; 2579];
     let mut holders = [0u16; 2048];
     let mut links = [0u16; 2048];
-    let k = enter::add(
-        s,
-        &mut sheet,
-        &mut holders,
-        &mut links,
-        pool.len(),
-        object,
-        page,
-    );
+    let sound = sound::examine(s, &mut sheet, &mut holders, &mut links);
+    let k = enter::add(sound, &sheet, pool.len(), object, page);
     if 0 < k {
         return Added {
-            number: k,
-            frame: 0,
             store: s,
+            frame: 0,
+            number: k,
         };
     }
     let f = steps::add_page(&mut sheet, pool, object, page);
-    let t = closing::closed(&sheet);
+    let frames = sheet::frames(&sheet);
+    let ranges = closing::ranges_of(&sheet);
+    let places = closing::places_of(&sheet);
+    let free = closing::free_map(&sheet, frames);
     Added {
-        number: 0,
+        store: Store {
+            frames,
+            live: sheet::live(&sheet),
+            count: sheet::count(&sheet),
+            ranges,
+            places,
+            free,
+        },
         frame: f,
-        store: t,
+        number: 0,
     }
 }
 
@@ -54,16 +57,8 @@ pub fn read(s: Store, pool: &[u8], object: u32, offset: usize, buf: &mut [u8]) -
     let mut holders = [0u16; 2048];
     let mut links = [0u16; 2048];
     let n = buf.len();
-    let k = enter::read(
-        s,
-        &mut sheet,
-        &mut holders,
-        &mut links,
-        pool.len(),
-        object,
-        offset,
-        n,
-    );
+    let sound = sound::examine(s, &mut sheet, &mut holders, &mut links);
+    let k = enter::read(sound, &sheet, pool.len(), object, offset, n);
     if 0 < k {
         return k;
     }
@@ -79,33 +74,35 @@ pub fn write(s: Store, pool: &mut [u8], object: u32, offset: usize, src: &[u8]) 
     let mut holders = [0u16; 2048];
     let mut links = [0u16; 2048];
     let n = src.len();
-    let k = enter::write(
-        s,
-        &mut sheet,
-        &mut holders,
-        &mut links,
-        pool.len(),
-        object,
-        offset,
-        n,
-    );
+    let sound = sound::examine(s, &mut sheet, &mut holders, &mut links);
+    let k = enter::write(sound, &sheet, &links, pool.len(), object, offset, n);
     if 0 < k {
         return Reply {
-            number: k,
             store: s,
+            number: k,
         };
     }
     let done = fetch::overwrite_pages(&sheet, &links, pool, object, offset, src);
     if done == n {
         return Reply {
-            number: 0,
             store: s,
+            number: 0,
         };
     }
     writing::write_pages(&mut sheet, pool, object, offset + done, &src[done..]);
-    let t = closing::closed(&sheet);
+    let frames = sheet::frames(&sheet);
+    let ranges = closing::ranges_of(&sheet);
+    let places = closing::places_of(&sheet);
+    let free = closing::free_map(&sheet, frames);
     Reply {
+        store: Store {
+            frames,
+            live: sheet::live(&sheet),
+            count: sheet::count(&sheet),
+            ranges,
+            places,
+            free,
+        },
         number: 0,
-        store: t,
     }
 }

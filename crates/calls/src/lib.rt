@@ -23,8 +23,8 @@ ghost use Rattle.calls.specs.Calls.{Did, said};
 
 // A call's number and the store handed back.
 pub struct Reply {
-    pub number: u8,
     pub store: Store,
+    pub number: u8,
 }
 
 pub fn new_object(s: Store, object: u32) -> Reply
@@ -33,18 +33,18 @@ pub fn new_object(s: Store, object: u32) -> Reply
     let mut sheet = [0u64; 2579];
     let mut holders = [0u16; 2048];
     let mut links = [0u16; 2048];
-    let k = enter::new_object(s, &mut sheet, &mut holders, &mut links, object);
+    let sound = sound::examine(s, &mut sheet, &mut holders, &mut links);
+    let k = enter::new_object(sound, &sheet, object);
     if 0 < k {
         return Reply {
-            number: k,
             store: s,
+            number: k,
         };
     }
     let ranges = s.ranges;
     let places = s.places;
     let free = s.free;
     Reply {
-        number: 0,
         store: Store {
             frames: s.frames,
             live: s.live | (1u32 << object),
@@ -53,6 +53,7 @@ pub fn new_object(s: Store, object: u32) -> Reply
             places,
             free,
         },
+        number: 0,
     }
 }
 
@@ -68,7 +69,8 @@ pub fn look_up(s: Store, object: u32, page: PageNumber) -> Looked
     let mut sheet = [0u64; 2579];
     let mut holders = [0u16; 2048];
     let mut links = [0u16; 2048];
-    let k = enter::look_up(s, &mut sheet, &mut holders, &mut links, object, page);
+    let sound = sound::examine(s, &mut sheet, &mut holders, &mut links);
+    let k = enter::look_up(sound, &sheet, object, page);
     if 0 < k {
         return Looked {
             number: k,
@@ -115,19 +117,18 @@ pub fn counts(s: Store) -> Numbers
     let mut sheet = [0u64; 2579];
     let mut holders = [0u16; 2048];
     let mut links = [0u16; 2048];
-    let k = enter::counts(s, &mut sheet, &mut holders, &mut links);
-    if 0 < k {
+    if sound::examine(s, &mut sheet, &mut holders, &mut links) {
+        let n = used_count(&sheet, s.frames);
         return Numbers {
-            number: k,
-            frames: 0,
-            ranges: 0,
+            number: 0,
+            frames: n,
+            ranges: s.count,
         };
     }
-    let n = used_count(&sheet, s.frames);
     Numbers {
-        number: 0,
-        frames: n,
-        ranges: s.count,
+        number: 1,
+        frames: 0,
+        ranges: 0,
     }
 }
 
@@ -161,14 +162,14 @@ pub fn create(frames: usize) -> Reply
     if (1 <= frames) & (frames <= 1024) {
         let t = empty_store(frames);
         return Reply {
-            number: 0,
             store: t,
+            number: 0,
         };
     }
     let t = empty_store(1);
     Reply {
-        number: 2,
         store: t,
+        number: 2,
     }
 }
 
@@ -192,16 +193,17 @@ pub fn drop_object(s: Store, object: u32) -> Reply
     let mut sheet = [0u64; 2579];
     let mut holders = [0u16; 2048];
     let mut links = [0u16; 2048];
-    let k = enter::drop_object(s, &mut sheet, &mut holders, &mut links, object);
+    let sound = sound::examine(s, &mut sheet, &mut holders, &mut links);
+    let k = enter::drop_object(sound, &sheet, object);
     if 0 < k {
         return Reply {
-            number: k,
             store: s,
+            number: k,
         };
     }
     let t = without_object(&mut sheet, object);
     Reply {
-        number: 0,
         store: t,
+        number: 0,
     }
 }

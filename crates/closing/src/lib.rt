@@ -5,10 +5,11 @@ use table::PageRange;
 ghost use mathlib.Core.Path.{_≡_};
 ghost use Prim.Native.Nat.{_≤_};
 ghost use Rattle.places.specs.Places.{FreeMap};
-ghost use Rattle.sheet.specs.Sheet.{storeOf, withFree};
+ghost use Rattle.sheet.specs.Sheet.{storeOf};
+ghost use Rattle.closing.specs.Closed.{Closed};
 
 // The table of a sheet.
-fn ranges_of(sheet: &[u64; 2579]) -> [PageRange; 512]
+pub fn ranges_of(sheet: &[u64; 2579]) -> [PageRange; 512]
     ensures { λ r. ⌜ r ≡ storeOf (now (sheet .entry)) .ranges ⌝ }
 {
     let z = table::zero_range();
@@ -23,7 +24,7 @@ fn ranges_of(sheet: &[u64; 2579]) -> [PageRange; 512]
 }
 
 // Where the frames of a sheet stand.
-fn places_of(sheet: &[u64; 2579]) -> [Place; 1024]
+pub fn places_of(sheet: &[u64; 2579]) -> [Place; 1024]
     ensures { λ r. ⌜ r ≡ storeOf (now (sheet .entry)) .places ⌝ }
 {
     let z = Place {
@@ -41,7 +42,7 @@ fn places_of(sheet: &[u64; 2579]) -> [Place; 1024]
 }
 
 // The free map of a sheet's frames: a frame is free exactly if it is below the number of frames and stands at no backing.
-fn free_map(sheet: &[u64; 2579], frames: usize) -> [u64; 16]
+pub fn free_map(sheet: &[u64; 2579], frames: usize) -> [u64; 16]
     requires { ⌜ frames ≤ 1024 ⌝ }
     ensures { λ r. ⌜ FreeMap frames (storeOf (now (sheet .entry)) .places) r ⌝ }
 {
@@ -64,7 +65,7 @@ fn free_map(sheet: &[u64; 2579], frames: usize) -> [u64; 16]
 // "released frames are free when the call ends": the store that a sheet stands for, with the free map made anew.
 pub fn closed(sheet: &[u64; 2579]) -> Store
     requires { ⌜ storeOf (now sheet) .frames ≤ 1024 ⌝ }
-    ensures { λ r. ⌜ (r ≡ withFree (r .free) (storeOf (now (sheet .entry)))) × (FreeMap (storeOf (now (sheet .entry)) .frames) (storeOf (now (sheet .entry)) .places) (r .free)) ⌝ }
+    ensures { λ r. ⌜ Closed (now (sheet .entry)) r ⌝ }
 {
     let frames = sheet::frames(sheet);
     let ranges = ranges_of(sheet);

@@ -31,27 +31,19 @@ pub fn zero_ranges(s: Store, pool: &mut [u8], object: u32, offset: usize, n: usi
     let mut sheet = [0u64; 2579];
     let mut holders = [0u16; 2048];
     let mut links = [0u16; 2048];
-    let k = enter::zero(
-        s,
-        &mut sheet,
-        &mut holders,
-        &mut links,
-        pool.len(),
-        object,
-        offset,
-        n,
-    );
+    let sound = sound::examine(s, &mut sheet, &mut holders, &mut links);
+    let k = enter::zero(sound, &sheet, &links, pool.len(), object, offset, n);
     if 0 < k {
         return Reply {
-            number: k,
             store: s,
+            number: k,
         };
     }
     zero_span(&mut sheet, pool, object, offset, n);
     let t = closing::closed(&sheet);
     Reply {
-        number: 0,
         store: t,
+        number: 0,
     }
 }
 
@@ -111,11 +103,11 @@ pub fn copy_ranges(
     let mut sheet = [0u64; 2579];
     let mut holders = [0u16; 2048];
     let mut links = [0u16; 2048];
+    let sound = sound::examine(s, &mut sheet, &mut holders, &mut links);
     let k = enter::copy(
-        s,
-        &mut sheet,
-        &mut holders,
-        &mut links,
+        sound,
+        &sheet,
+        &links,
         pool.len(),
         source,
         from,
@@ -125,15 +117,25 @@ pub fn copy_ranges(
     );
     if 0 < k {
         return Reply {
-            number: k,
             store: s,
+            number: k,
         };
     }
     copy_span(&mut sheet, pool, source, from, object, to, n);
-    let t = closing::closed(&sheet);
+    let frames = sheet::frames(&sheet);
+    let ranges = closing::ranges_of(&sheet);
+    let places = closing::places_of(&sheet);
+    let free = closing::free_map(&sheet, frames);
     Reply {
+        store: Store {
+            frames,
+            live: sheet::live(&sheet),
+            count: sheet::count(&sheet),
+            ranges,
+            places,
+            free,
+        },
         number: 0,
-        store: t,
     }
 }
 
@@ -152,22 +154,12 @@ pub fn copy_range_to_shadow(
     let mut sheet = [0u64; 2579];
     let mut holders = [0u16; 2048];
     let mut links = [0u16; 2048];
-    let k = enter::shadow(
-        s,
-        &mut sheet,
-        &mut holders,
-        &mut links,
-        pool.len(),
-        source,
-        from,
-        object,
-        to,
-        n,
-    );
+    let sound = sound::examine(s, &mut sheet, &mut holders, &mut links);
+    let k = enter::shadow(sound, &sheet, pool.len(), source, from, object, to, n);
     if 0 < k {
         return Reply {
-            number: k,
             store: s,
+            number: k,
         };
     }
     let first = PageNumber::from_offset(from);
@@ -176,7 +168,7 @@ pub fn copy_range_to_shadow(
     spread::copy_range_to_object_tree(&mut sheet, source, first, object, place, m);
     let t = closing::closed(&sheet);
     Reply {
-        number: 0,
         store: t,
+        number: 0,
     }
 }

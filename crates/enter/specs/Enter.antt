@@ -1,23 +1,19 @@
 -- The way into a call.
-use mathlib.Core.Path.{_≡_, refl, sym}
-use mathlib.Core.Bool.{true, false}
+use mathlib.Core.Path.{_≡_, ap, sym, _∙_}
+use mathlib.Core.Bool.{Bool, true, false}
 use mathlib.Core.List.{List}
 use Prim.Native.Nat.{ℕ}
-use lib.ListN.{length, replicate}
+use native.Mathlib.Omega.{arith}
+use lib.ListN.{length}
+use Rattle.lists.specs.Test.{by-test}
 use Rattle.store.specs.declared.Store.{Store}
 use Rattle.book.specs.Book.{Call, counts, lowest, table}
-use Rattle.store.specs.Sound.{sound?, Sound}
+use Rattle.store.specs.Sound.{sound?, Sound, Sized}
 use Rattle.store.specs.Iff.{sound-says}
 use Rattle.refuse.specs.Refuse.{refusal}
 use Rattle.sheet.specs.Sheet.{storeOf}
 use Rattle.sound.specs.Parts.{Examined}
 use Rattle.seek.specs.Framed.{Charted, Framed, sound-charted}
-
--- what a call lends for its work: a sheet, and room for chains
-pub record Clean (w h l : List ℕ) : Type 0 where
-  pub long : length w ≡ 2579
-  pub holders : h ≡ replicate 2048 0
-  pub links : l ≡ replicate 2048 0
 
 -- a sound store in its sheet w, with its frames chained
 pub record Entered (s : Store) (w l : List ℕ) : Type 0 where
@@ -47,3 +43,38 @@ spoiled s h x c = rw h
 pub counts-none : (s : Store) → sound? s ≡ true → (x : List ℕ) → 0 ≡ refusal s x counts
 unfolding lowest table
 counts-none s h x = rw h
+
+-- the number of a call on the store of a sheet, where the test says whether a sound store is in it
+unfoldable pub verdict : Bool → Store → List ℕ → Call → ℕ
+verdict true s x c = refusal s x c
+verdict false s x c = 1
+
+module _ (q : Bool) (s : Store) (x : List ℕ) (c : Call) where
+  pub verdict-sound : q ≡ true → {k : ℕ} → k ≡ refusal s x c → k ≡ verdict q s x c
+  unfolding verdict
+  verdict-sound t e = rw t e
+
+  pub verdict-spoiled : q ≡ false → 1 ≡ verdict q s x c
+  unfolding verdict
+  verdict-spoiled f = rw f
+
+-- what the examination of store s tells the call: whether it is sound (q), and then the store is in its sheet
+pub record Tried (s : Store) (q : Bool) (w l : List ℕ) : Type 0 where
+  pub test : q ≡ sound? s
+  pub sized : Sized s
+  pub enters : q ≡ true → Entered s w l
+
+pub tried : {s : Store} {q : Bool} {w l : List ℕ} → (q ≡ sound? s) × Sized s × (q ≡ true → Examined s w l) → Tried s q w l
+tried {s} {q} {w} {l} e = record { test = e .0; sized = e .1; enters = λ t. entered s w l (sym (e .0) ∙ t) (e .2 t) }
+
+module _ {s : Store} {q : Bool} {w l : List ℕ} (T : Tried s q w l) where
+  -- the number is the refusal of the store that was examined
+  pub refuses : {k : ℕ} (x : List ℕ) (c : Call) → k ≡ verdict q (storeOf w) x c → k ≡ refusal s x c
+  unfolding verdict
+  refuses x c e =
+      by-test q (λ t. (rw t at e) ∙ ap (λ (u : Store). refusal u x c) (T .enters t .store)) (λ f. (rw f at e) ∙ spoiled s (sym (T .test) ∙ f) x c)
+
+  -- a call that is not refused has a sound store in its sheet
+  pub accepted : {k : ℕ} (x : List ℕ) (c : Call) → k ≡ verdict q (storeOf w) x c → k ≡ 0 → Entered s w l
+  unfolding verdict
+  accepted x c e z = by-test q (T .enters) (λ f. absurd (let o = rw f at e in omega arith))

@@ -102,7 +102,7 @@ store-sized s vs t = record {
 }
 
 reply-sized : (r : Reply) (vs : List Val) → Is (row reply-type) r vs → Sized (r .store)
-reply-sized r vs t = store-sized (r .store) (t .0 .1 .0) (t .1 .1 .1 .0)
+reply-sized r vs t = store-sized (r .store) (t .0 .0) (t .1 .1 .0)
 
 -- ---- every call is the book's step
 
@@ -134,7 +134,7 @@ stepped (called-look s x o p r l) h Z = by-did _ s s x x _ _ (did-with _ s s _ _
 stepped (called-counts s x r l) h Z = by-did _ s s x x _ _ (did-with _ s s _ _ (l .0) x) h Z
 stepped (called-show κs s pool o p r l) h Z =
     by-same (show o (p .0)) s (pool .now) _ (ap bytes (l .0) ∙ show-book s Z o (p .0) (pool .now) h) (show-same s (pool .now) o (p .0)) h Z
-stepped (called-add κs s pool o p r y l k) h Z = by-did _ s _ _ y _ _ (l .0) h (store-sized (r .store) _ (k .1 .1 .1 .1 .0))
+stepped (called-add κs s pool o p r y l k) h Z = by-did _ s _ _ y _ _ (l .0) h (store-sized (r .store) _ (k .1 .1 .0))
 stepped (called-read κs s pool o a buf k d l) h Z = by-did _ s s _ _ _ _ (l .0) h Z
 stepped (called-write κs s pool o a src r y l k) h Z = by-did _ s _ _ y _ _ l h (reply-sized r _ k)
 stepped (called-copy κs s pool q a o b n r y l k) h Z = by-did _ s _ _ y _ _ l h (reply-sized r _ k)

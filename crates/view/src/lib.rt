@@ -18,7 +18,8 @@ fn frame_shown(s: Store, pool: usize, object: u32, page: PageNumber) -> Frame
     let mut sheet = [0u64; 2579];
     let mut holders = [0u16; 2048];
     let mut links = [0u16; 2048];
-    let k = enter::show(s, &mut sheet, &mut holders, &mut links, pool, object, page);
+    let sound = sound::examine(s, &mut sheet, &mut holders, &mut links);
+    let k = enter::show(sound, &sheet, pool, object, page);
     if 0 < k {
         return Frame::Nothing;
     }

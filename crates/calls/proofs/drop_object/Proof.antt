@@ -1,6 +1,6 @@
 -- `calls::drop_object` meets its contract.
 use mathlib.Core.Path.{_≡_, refl, sym, subst, _∙_}
-use mathlib.Core.List.{List}
+use mathlib.Core.List.{List, []}
 use Prim.Native.Nat.{ℕ, _+_, _≤_}
 use lib.ListN.{length}
 use Rattle.ranges.specs.Range.{line, carve}
@@ -9,6 +9,7 @@ use Rattle.table.specs.Table.{rangedOf}
 use Rattle.store.specs.declared.Store.{Store}
 use Rattle.store.specs.Abs.{used}
 use Rattle.refuse.specs.Refuse.{refusal}
+use Rattle.enter.specs.Enter.{accepted, refuses, tried}
 use Rattle.calls.specs.Calls.{did-refused}
 use Rattle.calls.specs.Drop.{Dropped, drop-name, drop-room, drop-done}
 use native.Mathlib.Omega.{arith}
@@ -16,36 +17,42 @@ use borrow.Author.Needs.{needs}
 use Rattle.calls.proofs.drop_object.Statement.{statement}
 use Rattle.calls.proofs.drop_object.Tie as tie
 
+examine-requires : tie.Need-examine-requires
+examine-requires c κs = search needs
+
 drop-object-requires : tie.Need-drop-object-requires
-drop-object-requires c κs = search needs
+drop-object-requires c κs = λ t. tried (c .before .examine .ensures) .enters t .sound
 
 returns : tie.Need-returns
 returns c =
-    let a = c .before .before .before .before .before .args in
+    let a = c .before .before .before .before .before .before .before .args in
     let q = c .before .drop-object in
-    did-refused (dropObject (a .object)) (a .s) done (q .result) (c .if1 .taken) (q .ensures .0) (λ j. refl)
+    let T = tried (c .before .before .before .examine .ensures) in
+    did-refused (dropObject (a .object)) (a .s) done (q .result) (c .if1 .taken) (λ x. refuses T x _ (q .ensures x)) (λ j. refl)
 
 without-object-requires : tie.Need-without-object-requires
 without-object-requires c κs =
-    let a = c .before .before .before .before .before .before .args in
+    let a = c .before .before .before .before .before .before .before .before .args in
     let q = c .before .before .drop-object in
+    let T = tried (c .before .before .before .before .examine .ensures) in
     let k : q .result ≡ 0 = omega (arith, c .before .if1 .left) in
-    let r : (x : List ℕ) → 0 ≡ refusal (a .s) x (dropObject (a .object)) = λ x. sym k ∙ q .ensures .0 x in
-    let E = q .ensures .2 k in
-    let m = drop-room (a .s) (a .object) (q .ensures .1) r in
+    let r : (x : List ℕ) → 0 ≡ refusal (a .s) x (dropObject (a .object)) = λ x. sym k ∙ refuses T x _ (q .ensures x) in
+    let E = accepted T [] _ (q .ensures []) k in
+    let m = drop-room (a .s) (a .object) (T .sized) r in
     let room = subst (λ (t : Store). length (carve (line (a .object) 0) (line (a .object) 0 + 262144) (rangedOf (used t))) ≤ 512) (sym (E .store)) m in
-    (E .long, E .sound, drop-name (a .s) (a .object) (q .ensures .1) r, room)
+    (E .long, E .sound, drop-name (a .s) (a .object) (T .sized) r, room)
 
 returns-2 : tie.Need-returns-2
 returns-2 c =
-    let a = c .before .before .before .before .before .before .before .args in
+    let a = c .before .before .before .before .before .before .before .before .before .args in
     let q = c .before .before .before .drop-object in
+    let T = tried (c .before .before .before .before .before .examine .ensures) in
     let k : q .result ≡ 0 = omega (arith, c .before .before .if1 .left) in
-    let r : (x : List ℕ) → 0 ≡ refusal (a .s) x (dropObject (a .object)) = λ x. sym k ∙ q .ensures .0 x in
-    let E = q .ensures .2 k in
+    let r : (x : List ℕ) → 0 ≡ refusal (a .s) x (dropObject (a .object)) = λ x. sym k ∙ refuses T x _ (q .ensures x) in
+    let E = accepted T [] _ (q .ensures []) k in
     let D = subst (λ (t : Store). Dropped t (a .object) (c .without-object .result)) (E .store) (c .without-object .ensures) in
-    drop-done (a .s) (a .object) (q .ensures .1) r (c .without-object .result) D
+    drop-done (a .s) (a .object) (T .sized) r (c .without-object .result) D
 
 pub drop-object-spec : {M : Type 1} → statement M
 drop-object-spec =
-    tie.close (tie.spec drop-object-requires returns without-object-requires returns-2)
+    tie.close (tie.spec examine-requires drop-object-requires returns without-object-requires returns-2)

@@ -1,6 +1,6 @@
 -- `calls::look_up` meets its contract.
 use mathlib.Core.Path.{_≡_, refl, ap₂, sym, _∙_}
-use mathlib.Core.List.{List}
+use mathlib.Core.List.{List, []}
 use Prim.Native.Nat.{ℕ}
 use Rattle.book.specs.Book.{lookUp, state}
 use Rattle.book.specs.Need.{absent}
@@ -8,7 +8,7 @@ use Rattle.ranges.specs.Range.{line}
 use Rattle.store.specs.declared.Store.{Store}
 use Rattle.look.specs.Look.{located, seen}
 use Rattle.refuse.specs.Refuse.{refusal}
-use Rattle.enter.specs.Enter.{entered-charted}
+use Rattle.enter.specs.Enter.{accepted, entered-charted, refuses, tried}
 use Rattle.calls.specs.Calls.{did-refused}
 use Rattle.calls.specs.Each.{look-done, look-page}
 use native.Mathlib.Omega.{arith}
@@ -16,41 +16,48 @@ use borrow.Author.Needs.{needs}
 use Rattle.calls.proofs.look_up.Statement.{statement}
 use Rattle.calls.proofs.look_up.Tie as tie
 
+examine-requires : tie.Need-examine-requires
+examine-requires c κs = search needs
+
 look-up-requires : tie.Need-look-up-requires
-look-up-requires c κs = search needs
+look-up-requires c κs = λ t. tried (c .before .examine .ensures) .enters t .sound
 
 returns : tie.Need-returns
 returns c =
-    let a = c .before .before .before .before .before .args in
+    let a = c .before .before .before .before .before .before .before .args in
     let q = c .before .look-up in
-    (did-refused (lookUp (a .object) (a .page .0)) (a .s) (state absent) (q .result) (c .if1 .taken) (q .ensures .0) (λ j. refl), λ _. refl)
+    let T = tried (c .before .before .before .examine .ensures) in
+    (did-refused (lookUp (a .object) (a .page .0)) (a .s) (state absent) (q .result) (c .if1 .taken) (λ x. refuses T x _ (q .ensures x)) (λ j. refl), λ _. refl)
 
 line-of-requires : tie.Need-line-of-requires
 line-of-requires c κs =
-    let a = c .before .before .before .before .before .args in
+    let a = c .before .before .before .before .before .before .before .args in
     let q = c .before .look-up in
+    let T = tried (c .before .before .before .examine .ensures) in
     let k : q .result ≡ 0 = omega (arith, c .if1 .left) in
-    let r : (x : List ℕ) → 0 ≡ refusal (a .s) x (lookUp (a .object) (a .page .0)) = λ x. sym k ∙ q .ensures .0 x in
+    let r : (x : List ℕ) → 0 ≡ refusal (a .s) x (lookUp (a .object) (a .page .0)) = λ x. sym k ∙ refuses T x _ (q .ensures x) in
     omega (arith, look-page (a .s) (a .object) (a .page .0) r)
 
 state-of-requires : tie.Need-state-of-requires
 state-of-requires c κs =
-    let a = c .before .before .before .before .before .before .before .before .args in
+    let a = c .before .before .before .before .before .before .before .before .before .before .args in
     let q = c .before .before .before .before .look-up in
+    let T = tried (c .before .before .before .before .before .before .examine .ensures) in
     let k : q .result ≡ 0 = omega (arith, c .before .before .before .if1 .left) in
-    let r : (x : List ℕ) → 0 ≡ refusal (a .s) x (lookUp (a .object) (a .page .0)) = λ x. sym k ∙ q .ensures .0 x in
-    (entered-charted (a .s) _ _ (q .ensures .2 k), omega (arith, c .before .before .line-of .ensures, look-page (a .s) (a .object) (a .page .0) r))
+    let r : (x : List ℕ) → 0 ≡ refusal (a .s) x (lookUp (a .object) (a .page .0)) = λ x. sym k ∙ refuses T x _ (q .ensures x) in
+    (entered-charted (a .s) _ _ (accepted T [] _ (q .ensures []) k), omega (arith, c .before .before .line-of .ensures, look-page (a .s) (a .object) (a .page .0) r))
 
 returns-2 : tie.Need-returns-2
 returns-2 c =
-    let a = c .before .before .before .before .before .before .before .before .before .args in
+    let a = c .before .before .before .before .before .before .before .before .before .before .before .args in
     let q = c .before .before .before .before .before .look-up in
+    let T = tried (c .before .before .before .before .before .before .before .examine .ensures) in
     let k : q .result ≡ 0 = omega (arith, c .before .before .before .before .if1 .left) in
-    let r : (x : List ℕ) → 0 ≡ refusal (a .s) x (lookUp (a .object) (a .page .0)) = λ x. sym k ∙ q .ensures .0 x in
+    let r : (x : List ℕ) → 0 ≡ refusal (a .s) x (lookUp (a .object) (a .page .0)) = λ x. sym k ∙ refuses T x _ (q .ensures x) in
     let e : c .state-of .result ≡ seen (a .s) (located (a .s) (line (a .object) (a .page .0))) =
-    c .state-of .ensures ∙ ap₂ (λ (t : Store) (g : ℕ). seen t (located t g)) (q .ensures .2 k .store) (c .before .before .before .line-of .ensures) in
-    (look-done (a .s) (q .ensures .1) (a .object) (a .page .0) r (c .state-of .result) e, λ l. absurd (omega arith))
+    c .state-of .ensures ∙ ap₂ (λ (t : Store) (g : ℕ). seen t (located t g)) (accepted T [] _ (q .ensures []) k .store) (c .before .before .before .line-of .ensures) in
+    (look-done (a .s) (T .sized) (a .object) (a .page .0) r (c .state-of .result) e, λ l. absurd (omega arith))
 
 pub look-up-spec : {M : Type 1} → statement M
 look-up-spec =
-    tie.close (tie.spec look-up-requires returns line-of-requires state-of-requires returns-2)
+    tie.close (tie.spec examine-requires look-up-requires returns line-of-requires state-of-requires returns-2)

@@ -1,5 +1,5 @@
 -- `closing::closed`: the store is that of the sheet but for its free map, which is that of the places.
-use native.Mathlib.Omega.{arith}
+use Rattle.closing.specs.Closed.{closed-parts}
 use borrow.Author.Needs.{needs}
 use Rattle.closing.proofs.closed.Statement.{statement}
 use Rattle.closing.proofs.closed.Tie as tie
@@ -24,18 +24,8 @@ count-requires c κs = search needs
 
 returns : tie.Need-returns
 returns c =
-    let n = c .before .before .before .before .before .frames .ensures in
-    let f = c .before .before .free-map .ensures in (
-      λ j. record {
-        frames = n j;
-        live = c .before .live .ensures j;
-        count = c .count .ensures j;
-        ranges = c .before .before .before .before .ranges-of .ensures j;
-        places = c .before .before .before .places-of .ensures j;
-        free = c .before .before .free-map .result;
-      },
-      rw n at f,
-    )
+    closed-parts _ _ _ _ _ _ _ (c .before .before .before .before .before .frames .ensures) (c .before .live .ensures) (c .count .ensures)
+    (c .before .before .before .before .ranges-of .ensures) (c .before .before .before .places-of .ensures) (c .before .before .free-map .ensures)
 
 pub closed-spec : {M : Type 1} → statement M
 closed-spec =

@@ -4,6 +4,7 @@ use Prim.Native.Nat.{_/_}
 use Rattle.book.specs.Book.{shadow, done}
 use Rattle.refuse.specs.Refuse.{refusal}
 use Rattle.calls.specs.With.{with-refused}
+use Rattle.enter.specs.Enter.{accepted, refuses, tried}
 use Rattle.pages.specs.Any.{zeros}
 use Rattle.access.specs.Finish.{handed}
 use Rattle.copies.specs.Enters.{shadow-enters, shadow-done}
@@ -12,13 +13,16 @@ use borrow.Author.Needs.{needs}
 use Rattle.copies.proofs.copy_range_to_shadow.Statement.{statement}
 use Rattle.copies.proofs.copy_range_to_shadow.Tie as tie
 
+examine-requires : tie.Need-examine-requires
+examine-requires c κs = search needs
+
 shadow-requires : tie.Need-shadow-requires
-shadow-requires c κs = search needs
+shadow-requires c κs = λ t. tried (c .before .examine .ensures) .enters t .sound
 
 returns : tie.Need-returns
 returns c =
-    let a = c .before .before .before .before .before .before .args in
-    with-refused (shadow (a .source) (a .from) (a .object) (a .to) (a .n)) (a .s) (a .pool .now) done (c .before .shadow .result) (c .if1 .taken) (c .before .shadow .ensures .0 (a .pool .now) refl) (λ j. refl)
+    let a = c .before .before .before .before .before .before .before .before .args in
+    with-refused (shadow (a .source) (a .from) (a .object) (a .to) (a .n)) (a .s) (a .pool .now) done (c .before .shadow .result) (c .if1 .taken) (refuses (tried (c .before .before .before .examine .ensures)) _ _ (c .before .shadow .ensures (a .pool .now) refl)) (λ j. refl)
 
 from-offset-requires : tie.Need-from-offset-requires
 from-offset-requires c κs = search needs
@@ -28,47 +32,51 @@ from-offset-requires-2 c κs = search needs
 
 copy-range-to-object-tree-requires : tie.Need-copy-range-to-object-tree-requires
 copy-range-to-object-tree-requires c κs =
-    let a = c .before .before .before .before .before .before .before .before .before .args in
+    let a = c .before .before .before .before .before .before .before .before .before .before .before .args in
     let e = c .before .before .before .before .shadow .ensures in
+    let T = tried (c .before .before .before .before .before .before .examine .ensures) in
     let k : c .before .before .before .before .shadow .result ≡ 0 = omega (arith, c .before .before .before .if1 .left) in
-    let E = e .2 k in
-    let r : 0 ≡ refusal (a .s) (a .pool .now) (shadow (a .source) (a .from) (a .object) (a .to) (a .n)) = sym k ∙ e .0 (a .pool .now) refl in
+    let E = accepted T _ _ (e (a .pool .now) refl) k in
+    let r : 0 ≡ refusal (a .s) (a .pool .now) (shadow (a .source) (a .from) (a .object) (a .to) (a .n)) = sym k ∙ refuses T _ _ (e (a .pool .now) refl) in
     let p : c .before .before .from-offset .result .0 ≡ a .from / 4096 = c .before .before .from-offset .ensures in
     let g : c .before .from-offset2 .result .0 ≡ a .to / 4096 = c .before .from-offset2 .ensures in
-    let q = shadow-enters (a .s) (a .pool .now) (e .1) (a .source) (a .from) (a .object) (a .to) (a .n) r in
+    let q = shadow-enters (a .s) (a .pool .now) (T .sized) (a .source) (a .from) (a .object) (a .to) (a .n) r in
     (E .long, rw (E .store) (q .0), q .1, rw p (q .2), rw g (q .3), rw (E .store, p) (q .4))
 
 closed-requires : tie.Need-closed-requires
 closed-requires c κs =
-    let a = c .before .before .before .before .before .before .before .before .before .before .before .args in
+    let a = c .before .before .before .before .before .before .before .before .before .before .before .before .before .args in
     let e = c .before .before .before .before .before .before .shadow .ensures in
+    let T = tried (c .before .before .before .before .before .before .before .before .examine .ensures) in
     let k : c .before .before .before .before .before .before .shadow .result ≡ 0 = omega (arith, c .before .before .before .before .before .if1 .left) in
-    let E = e .2 k in
-    let r : 0 ≡ refusal (a .s) (a .pool .now) (shadow (a .source) (a .from) (a .object) (a .to) (a .n)) = sym k ∙ e .0 (a .pool .now) refl in
+    let E = accepted T _ _ (e (a .pool .now) refl) k in
+    let r : 0 ≡ refusal (a .s) (a .pool .now) (shadow (a .source) (a .from) (a .object) (a .to) (a .n)) = sym k ∙ refuses T _ _ (e (a .pool .now) refl) in
     let p : c .before .before .before .before .from-offset .result .0 ≡ a .from / 4096 = c .before .before .before .before .from-offset .ensures in
     let g : c .before .before .before .from-offset2 .result .0 ≡ a .to / 4096 = c .before .before .before .from-offset2 .ensures in
-    let q = shadow-enters (a .s) (a .pool .now) (e .1) (a .source) (a .from) (a .object) (a .to) (a .n) r in
+    let q = shadow-enters (a .s) (a .pool .now) (T .sized) (a .source) (a .from) (a .object) (a .to) (a .n) r in
     let U = rw (E .store) at (c .before .copy-range-to-object-tree .ensures .0) in
     let R = U (zeros (a .s)) (q .0) in
     omega (arith, R .frames, q .0 .few-frames)
 
 returns-2 : tie.Need-returns-2
 returns-2 c =
-    let a = c .before .before .before .before .before .before .before .before .before .before .before .before .args in
+    let a = c .before .before .before .before .before .before .before .before .before .before .before .before .before .before .args in
     let e = c .before .before .before .before .before .before .before .shadow .ensures in
+    let T = tried (c .before .before .before .before .before .before .before .before .before .examine .ensures) in
     let k : c .before .before .before .before .before .before .before .shadow .result ≡ 0 = omega (arith, c .before .before .before .before .before .before .if1 .left) in
-    let E = e .2 k in
-    let r : 0 ≡ refusal (a .s) (a .pool .now) (shadow (a .source) (a .from) (a .object) (a .to) (a .n)) = sym k ∙ e .0 (a .pool .now) refl in
+    let E = accepted T _ _ (e (a .pool .now) refl) k in
+    let r : 0 ≡ refusal (a .s) (a .pool .now) (shadow (a .source) (a .from) (a .object) (a .to) (a .n)) = sym k ∙ refuses T _ _ (e (a .pool .now) refl) in
     let p : c .before .before .before .before .before .from-offset .result .0 ≡ a .from / 4096 = c .before .before .before .before .before .from-offset .ensures in
     let g : c .before .before .before .before .from-offset2 .result .0 ≡ a .to / 4096 = c .before .before .before .before .from-offset2 .ensures in
     let U = rw (E .store, p, g) at (c .before .before .copy-range-to-object-tree .ensures .0) in
     let m = c .closed .ensures in
-    handed _ _ _ _ _ _ _ _ (m .0) (shadow-done (a .s) (a .pool .now) (e .1) (a .source) (a .from) (a .object) (a .to) (a .n) r _ U _ (m .1))
+    handed _ _ _ _ _ _ _ _ (m .0) (shadow-done (a .s) (a .pool .now) (T .sized) (a .source) (a .from) (a .object) (a .to) (a .n) r _ U _ (m .1))
 
 pub copy-range-to-shadow-spec : {M : Type 1} → statement M
 copy-range-to-shadow-spec =
     tie.close
     (tie.spec
+    examine-requires
     shadow-requires
     returns
     from-offset-requires

@@ -4,28 +4,33 @@ use Rattle.copies.specs.Enters.{zero-enters, zero-done}
 use mathlib.Core.Path.{_≡_, refl, sym, _∙_}
 use Rattle.refuse.specs.Refuse.{refusal}
 use Rattle.calls.specs.With.{with-refused}
+use Rattle.enter.specs.Enter.{accepted, refuses, tried}
 use Rattle.access.specs.Finish.{handed}
 use native.Mathlib.Omega.{arith}
 use borrow.Author.Needs.{needs}
 use Rattle.copies.proofs.zero_ranges.Statement.{statement}
 use Rattle.copies.proofs.zero_ranges.Tie as tie
 
+examine-requires : tie.Need-examine-requires
+examine-requires c κs = search needs
+
 zero-requires : tie.Need-zero-requires
-zero-requires c κs = search needs
+zero-requires c κs = λ t. let E = tried (c .before .before .examine .ensures) .enters t in (E .sound, E .framed)
 
 returns : tie.Need-returns
 returns c =
-    let a = c .before .before .before .before .before .before .args in
-    with-refused (zeroOut (a .object) (a .offset) (a .n)) (a .s) (a .pool .now) done (c .before .zero .result) (c .if1 .taken) (c .before .zero .ensures .0 (a .pool .now) refl) (λ j. refl)
+    let a = c .before .before .before .before .before .before .before .before .before .args in
+    with-refused (zeroOut (a .object) (a .offset) (a .n)) (a .s) (a .pool .now) done (c .before .zero .result) (c .if1 .taken) (refuses (tried (c .before .before .before .before .examine .ensures)) _ _ (c .before .zero .ensures (a .pool .now) refl)) (λ j. refl)
 
 zero-span-requires : tie.Need-zero-span-requires
 zero-span-requires c κs =
-    let a = c .before .before .before .before .before .before .before .before .args in
+    let a = c .before .before .before .before .before .before .before .before .before .before .before .args in
     let e = c .before .before .before .zero .ensures in
+    let T = tried (c .before .before .before .before .before .before .examine .ensures) in
     let k : c .before .before .before .zero .result ≡ 0 = omega (arith, c .before .before .if1 .left) in
-    let E = e .2 k in
-    let r : 0 ≡ refusal (a .s) (a .pool .now) (zeroOut (a .object) (a .offset) (a .n)) = sym k ∙ e .0 (a .pool .now) refl in
-    (E .long, rw (E .store) (zero-enters (a .s) (a .pool .now) (e .1) (a .object) (a .offset) (a .n) r))
+    let E = accepted T _ _ (e (a .pool .now) refl) k in
+    let r : 0 ≡ refusal (a .s) (a .pool .now) (zeroOut (a .object) (a .offset) (a .n)) = sym k ∙ refuses T _ _ (e (a .pool .now) refl) in
+    (E .long, rw (E .store) (zero-enters (a .s) (a .pool .now) (T .sized) (a .object) (a .offset) (a .n) r))
 
 closed-requires : tie.Need-closed-requires
 closed-requires c κs = search needs
@@ -35,16 +40,17 @@ same-length c = search needs
 
 returns-2 : tie.Need-returns-2
 returns-2 c =
-    let a = c .before .before .before .before .before .before .before .before .before .before .before .before .before .args in
+    let a = c .before .before .before .before .before .before .before .before .before .before .before .before .before .before .before .before .args in
     let e = c .before .before .before .before .before .before .before .before .zero .ensures in
+    let T = tried (c .before .before .before .before .before .before .before .before .before .before .before .examine .ensures) in
     let k : c .before .before .before .before .before .before .before .before .zero .result ≡ 0 = omega (arith, c .before .before .before .before .before .before .before .if1 .left) in
-    let E = e .2 k in
-    let r : 0 ≡ refusal (a .s) (a .pool .now) (zeroOut (a .object) (a .offset) (a .n)) = sym k ∙ e .0 (a .pool .now) refl in
+    let E = accepted T _ _ (e (a .pool .now) refl) k in
+    let r : 0 ≡ refusal (a .s) (a .pool .now) (zeroOut (a .object) (a .offset) (a .n)) = sym k ∙ refuses T _ _ (e (a .pool .now) refl) in
     let S = rw (E .store) at (c .before .before .before .before .zero-span .ensures .0) in
     let m = c .closed .ensures in
-    handed _ _ _ _ _ _ _ _ (m .0) (zero-done (a .s) (a .pool .now) (e .1) (a .object) (a .offset) (a .n) r _ _ S _ (m .1))
+    handed _ _ _ _ _ _ _ _ (m .0) (zero-done (a .s) (a .pool .now) (T .sized) (a .object) (a .offset) (a .n) r _ _ S _ (m .1))
 
 pub zero-ranges-spec : {M : Type 1} → statement M
 zero-ranges-spec =
     tie.close
-    (tie.spec zero-requires returns zero-span-requires closed-requires same-length returns-2)
+    (tie.spec examine-requires zero-requires returns zero-span-requires closed-requires same-length returns-2)

@@ -1,34 +1,16 @@
 -- `enter::look_up` meets its contract.
-use mathlib.Core.Path.{ap, sym, _∙_}
-use Rattle.book.specs.Book.{lookUp}
-use Rattle.store.specs.declared.Store.{Store}
-use Rattle.refuse.specs.Refuse.{refusal}
-use Rattle.enter.specs.Enter.{entered, spoiled}
-use native.Mathlib.Omega.{arith}
-use borrow.Author.Needs.{needs}
+use Rattle.enter.specs.Enter.{verdict-sound, verdict-spoiled}
 use Rattle.enter.proofs.look_up.Statement.{statement}
 use Rattle.enter.proofs.look_up.Tie as tie
 
-examine-requires : tie.Need-examine-requires
-examine-requires c κs = search needs
-
 look-up-requires : tie.Need-look-up-requires
-look-up-requires c κs =
-    let E = entered _ _ _ (sym (c .before .before .examine .ensures .0) ∙ c .before .if1 .taken) (c .before .before .examine .ensures .2 (c .before .if1 .taken)) in
-    E .sound
+look-up-requires c κs = c .before .pre (c .if1 .taken)
 
 returns : tie.Need-returns
-returns c =
-    let a = c .before .before .before .before .before .before .before .args in
-    let E = entered _ _ _ (sym (c .before .before .before .examine .ensures .0) ∙ c .before .before .if1 .taken) (c .before .before .before .examine .ensures .2 (c .before .before .if1 .taken)) in
-    (λ x. c .look-up .ensures x ∙ ap (λ (t : Store). refusal t x (lookUp (a .object) (a .page .0))) (E .store), c .before .before .before .examine .ensures .1, λ _. E)
+returns c = λ x. verdict-sound _ _ _ _ (c .before .if1 .taken) (c .look-up .ensures x)
 
 returns-2 : tie.Need-returns-2
-returns-2 c =
-    let a = c .before .before .before .before .before .args in
-    let e = c .before .examine .ensures in
-    let t = sym (e .0) ∙ c .if1 .left in
-    (λ x. spoiled (a .s) t x (lookUp (a .object) (a .page .0)), e .1, λ z. absurd (omega arith))
+returns-2 c = λ x. verdict-spoiled _ _ _ _ (c .if1 .left)
 
 pub look-up-spec : {M : Type 1} → statement M
-look-up-spec = tie.close (tie.spec examine-requires look-up-requires returns returns-2)
+look-up-spec = tie.close (tie.spec look-up-requires returns returns-2)

@@ -36,6 +36,7 @@ same-length-2 c = search needs
 returns : tie.Need-returns
 returns c =
     let a = c .before .before .before .before .before .before .before .before .before .before .before .before .args in
+    let p = c .before .before .before .before .before .before .before .before .before .before .before .before .pre in
     let r = c .before .before .before .zero-ranges in (
       omega arith,
       spoke-done _ _ _ _ _ _ _
