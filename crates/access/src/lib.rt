@@ -75,14 +75,23 @@ pub fn write(s: Store, pool: &mut [u8], object: u32, offset: usize, src: &[u8]) 
     let mut links = [0u16; 2048];
     let n = src.len();
     let sound = sound::examine(s, &mut sheet, &mut holders, &mut links);
-    let k = enter::write(sound, &sheet, &links, pool.len(), object, offset, n);
+    let k = enter::write(
+        sound,
+        &sheet,
+        &holders,
+        &links,
+        pool.len(),
+        object,
+        offset,
+        n,
+    );
     if 0 < k {
         return Reply {
             store: s,
             number: k,
         };
     }
-    let done = fetch::overwrite_pages(&sheet, &links, pool, object, offset, src);
+    let done = fetch::overwrite_pages(&sheet, &holders, &links, pool, object, offset, src);
     if done == n {
         return Reply {
             store: s,

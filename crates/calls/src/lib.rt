@@ -78,7 +78,7 @@ pub fn look_up(s: Store, object: u32, page: PageNumber) -> Looked
         };
     }
     let g = table::line_of(object, page);
-    let t = seek::state_of(&sheet, &links, g);
+    let t = seek::state_of(&sheet, &holders, &links, g);
     Looked {
         number: 0,
         state: t,

@@ -9,6 +9,8 @@ ghost use Rattle.book.specs.Copy.{copyEqual, copying, zeroing};
 ghost use Rattle.book.specs.Book.{copy, shadow, zeroOut, done};
 ghost use Rattle.store.specs.Spare.{workOf};
 ghost use Rattle.sheet.specs.Sheet.{storeOf};
+ghost use Rattle.seek.specs.Framed.{Charted};
+ghost use Rattle.seek.specs.Held.{Held};
 ghost use Rattle.calls.specs.With.{DidWith};
 ghost use Rattle.copies.specs.Room.{ZeroRoom, EqualRoom, CopyRoom, Worked};
 
@@ -32,7 +34,16 @@ pub fn zero_ranges(s: Store, pool: &mut [u8], object: u32, offset: usize, n: usi
     let mut holders = [0u16; 2048];
     let mut links = [0u16; 2048];
     let sound = sound::examine(s, &mut sheet, &mut holders, &mut links);
-    let k = enter::zero(sound, &sheet, &links, pool.len(), object, offset, n);
+    let k = enter::zero(
+        sound,
+        &sheet,
+        &holders,
+        &links,
+        pool.len(),
+        object,
+        offset,
+        n,
+    );
     if 0 < k {
         return Reply {
             store: s,
@@ -72,6 +83,8 @@ fn copy_equal(
 // "At unequal places all is bytes, absent source bytes being zeros."
 fn copy_span(
     sheet: &mut [u64; 2579],
+    holders: &[u16; 2048],
+    links: &[u16; 2048],
     pool: &mut [u8],
     source: u32,
     from: usize,
@@ -79,14 +92,14 @@ fn copy_span(
     to: usize,
     n: usize,
 )
-    requires { ⌜ (length (now sheet) ≡ 2579) × (CopyRoom (storeOf (now sheet)) (now pool) source from object to n) ⌝ }
+    requires { ⌜ (length (now sheet) ≡ 2579) × (CopyRoom (storeOf (now sheet)) (now pool) source from object to n) × (Charted (now sheet) (now links)) × (Held (now sheet) (now holders)) ⌝ }
     ensures { λ _. ⌜ (Worked (storeOf (now (sheet .entry))) (now (pool .entry)) (copying source from object to n (workOf (storeOf (now (sheet .entry))) (now (pool .entry)))) (storeOf (now (sheet .exit))) (now (pool .exit))) × (length (now (sheet .exit)) ≡ 2579) ⌝ }
 {
     if PageNumber::place(from) == PageNumber::place(to) {
         copy_equal(sheet, pool, source, from, object, to, n);
         return;
     }
-    writing::copy_bytes(sheet, pool, source, from, object, to, n);
+    writing::copy_over(sheet, holders, links, pool, source, from, object, to, n);
 }
 
 pub fn copy_ranges(
@@ -107,6 +120,7 @@ pub fn copy_ranges(
     let k = enter::copy(
         sound,
         &sheet,
+        &holders,
         &links,
         pool.len(),
         source,
@@ -121,7 +135,17 @@ pub fn copy_ranges(
             number: k,
         };
     }
-    copy_span(&mut sheet, pool, source, from, object, to, n);
+    copy_span(
+        &mut sheet,
+        &holders,
+        &links,
+        pool,
+        source,
+        from,
+        object,
+        to,
+        n,
+    );
     let frames = sheet::frames(&sheet);
     let ranges = closing::ranges_of(&sheet);
     let places = closing::places_of(&sheet);

@@ -9,6 +9,7 @@ ghost use Rattle.book.specs.Book.{newObject, dropObject, add, lookUp, show, rea
 ghost use Rattle.store.specs.Sound.{Sound};
 ghost use Rattle.sheet.specs.Sheet.{storeOf};
 ghost use Rattle.seek.specs.Framed.{Framed};
+ghost use Rattle.seek.specs.Held.{Held};
 ghost use Rattle.enter.specs.Enter.{verdict};
 
 pub fn new_object(sound: bool, sheet: &[u64; 2579], object: u32) -> u8
@@ -81,17 +82,18 @@ pub fn read(
 pub fn write(
     sound: bool,
     sheet: &[u64; 2579],
+    holders: &[u16; 2048],
     links: &[u16; 2048],
     pool: usize,
     object: u32,
     offset: usize,
     n: usize,
 ) -> u8
-    requires { ⌜ (sound ≡ true → (Sound (storeOf (now sheet))) × (Framed (now sheet) (now links))) ⌝ }
+    requires { ⌜ (sound ≡ true → (Sound (storeOf (now sheet))) × (Framed (now sheet) (now links)) × (Held (now sheet) (now holders))) ⌝ }
     ensures { λ q. ⌜ ((x d : List ℕ) → length x ≡ pool → length d ≡ n → q ≡ verdict sound (storeOf (now (sheet .entry))) x (write object offset d)) ⌝ }
 {
     if sound {
-        return judge::write(sheet, links, pool, object, offset, n);
+        return judge::write(sheet, holders, links, pool, object, offset, n);
     }
     1
 }
@@ -99,6 +101,7 @@ pub fn write(
 pub fn copy(
     sound: bool,
     sheet: &[u64; 2579],
+    holders: &[u16; 2048],
     links: &[u16; 2048],
     pool: usize,
     source: u32,
@@ -107,11 +110,11 @@ pub fn copy(
     to: usize,
     n: usize,
 ) -> u8
-    requires { ⌜ (sound ≡ true → (Sound (storeOf (now sheet))) × (Framed (now sheet) (now links))) ⌝ }
+    requires { ⌜ (sound ≡ true → (Sound (storeOf (now sheet))) × (Framed (now sheet) (now links)) × (Held (now sheet) (now holders))) ⌝ }
     ensures { λ q. ⌜ ((x : List ℕ) → length x ≡ pool → q ≡ verdict sound (storeOf (now (sheet .entry))) x (copy source from object to n)) ⌝ }
 {
     if sound {
-        return judge::copy(sheet, links, pool, source, from, object, to, n);
+        return judge::copy(sheet, holders, links, pool, source, from, object, to, n);
     }
     1
 }
@@ -138,17 +141,18 @@ pub fn shadow(
 pub fn zero(
     sound: bool,
     sheet: &[u64; 2579],
+    holders: &[u16; 2048],
     links: &[u16; 2048],
     pool: usize,
     object: u32,
     offset: usize,
     n: usize,
 ) -> u8
-    requires { ⌜ (sound ≡ true → (Sound (storeOf (now sheet))) × (Framed (now sheet) (now links))) ⌝ }
+    requires { ⌜ (sound ≡ true → (Sound (storeOf (now sheet))) × (Framed (now sheet) (now links)) × (Held (now sheet) (now holders))) ⌝ }
     ensures { λ q. ⌜ ((x : List ℕ) → length x ≡ pool → q ≡ verdict sound (storeOf (now (sheet .entry))) x (zeroOut object offset n)) ⌝ }
 {
     if sound {
-        return judge::zero(sheet, links, pool, object, offset, n);
+        return judge::zero(sheet, holders, links, pool, object, offset, n);
     }
     1
 }

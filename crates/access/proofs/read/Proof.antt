@@ -32,7 +32,7 @@ read-pages-requires c κs =
     let E = accepted T _ _ (e (a .pool .now) refl) k in
     let r : 0 ≡ refusal (a .s) (a .pool .now) (read (a .object) (a .offset) (length (a .buf .now))) = sym k ∙ refuses T _ _ (e (a .pool .now) refl) in
     let q = read-enters (a .s) (a .pool .now) (T .sized) (a .object) (a .offset) (length (a .buf .now)) r in
-    ((entered-charted (a .s) _ _ E, rw (E .store) (q .0 .3)), q .1)
+    ((entered-charted E, rw (E .store) (q .0 .3)), q .1)
 
 same-length : tie.Need-same-length
 same-length c = search needs

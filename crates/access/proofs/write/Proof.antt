@@ -19,7 +19,7 @@ examine-requires : tie.Need-examine-requires
 examine-requires c κs = search needs
 
 write-requires : tie.Need-write-requires
-write-requires c κs = λ t. let E = tried (c .before .before .examine .ensures) .enters t in (E .sound, E .framed)
+write-requires c κs = λ t. let E = tried (c .before .before .examine .ensures) .enters t in (E .sound, E .framed, E .held)
 
 returns : tie.Need-returns
 returns c =
@@ -35,7 +35,7 @@ overwrite-pages-requires c κs =
     let E = accepted T _ _ (e (a .pool .now) (a .src .now) refl refl) k in
     let r : 0 ≡ refusal (a .s) (a .pool .now) (write (a .object) (a .offset) (a .src .now)) = sym k ∙ refuses T _ _ (e (a .pool .now) (a .src .now) refl refl) in
     let R = write-enters (a .s) (a .pool .now) (T .sized) (a .object) (a .offset) (a .src .now) r in
-    (entered-charted (a .s) _ _ E, rw (E .store) R)
+    (entered-charted E, rw (E .store) R)
 
 same-length : tie.Need-same-length
 same-length c = search needs

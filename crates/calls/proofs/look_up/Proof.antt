@@ -45,7 +45,7 @@ state-of-requires c κs =
     let T = tried (c .before .before .before .before .before .before .examine .ensures) in
     let k : q .result ≡ 0 = omega (arith, c .before .before .before .if1 .left) in
     let r : (x : List ℕ) → 0 ≡ refusal (a .s) x (lookUp (a .object) (a .page .0)) = λ x. sym k ∙ refuses T x _ (q .ensures x) in
-    (entered-charted (a .s) _ _ (accepted T [] _ (q .ensures []) k), omega (arith, c .before .before .line-of .ensures, look-page (a .s) (a .object) (a .page .0) r))
+    (entered-charted (accepted T [] _ (q .ensures []) k), omega (arith, c .before .before .line-of .ensures, look-page (a .s) (a .object) (a .page .0) r))
 
 returns-2 : tie.Need-returns-2
 returns-2 c =

@@ -6,6 +6,7 @@ use Rattle.refuse.specs.Refuse.{refusal}
 use Rattle.calls.specs.With.{with-refused}
 use Rattle.enter.specs.Enter.{accepted, refuses, tried}
 use Rattle.access.specs.Finish.{handed}
+use Rattle.enter.specs.Enter.{entered-charted}
 use Rattle.copies.specs.Room.{CopyRoom}
 use Rattle.closing.specs.Closed.{closed-parts}
 use native.Mathlib.Omega.{arith}
@@ -17,7 +18,7 @@ examine-requires : tie.Need-examine-requires
 examine-requires c κs = search needs
 
 copy-requires : tie.Need-copy-requires
-copy-requires c κs = λ t. let E = tried (c .before .before .examine .ensures) .enters t in (E .sound, E .framed)
+copy-requires c κs = λ t. let E = tried (c .before .before .examine .ensures) .enters t in (E .sound, E .framed, E .held)
 
 returns : tie.Need-returns
 returns c =
@@ -36,7 +37,7 @@ copy-span-requires c κs =
       equal = equal-enters (a .s) (a .pool .now) (T .sized) (a .source) (a .from) (a .object) (a .to) (a .n) r;
       bytes = bytes-enters (a .s) (a .pool .now) (T .sized) (a .source) (a .from) (a .object) (a .to) (a .n) r;
     } in
-    (E .long, rw (E .store) q)
+    (E .long, rw (E .store) q, entered-charted E, E .held)
 
 frames-requires : tie.Need-frames-requires
 frames-requires c κs = search needs

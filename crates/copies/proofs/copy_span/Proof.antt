@@ -34,14 +34,14 @@ returns c =
     let h = c .before .before .copy-equal .ensures in
     (copy-even (storeOf (a .sheet .now)) (a .pool .now) (a .source) (a .from) (a .object) (a .to) (a .n) (sym f ∙ c .before .before .before .before .before .if1 .taken ∙ g) _ _ (h .0), h .1)
 
-copy-bytes-requires : tie.Need-copy-bytes-requires
-copy-bytes-requires c κs =
+copy-over-requires : tie.Need-copy-over-requires
+copy-over-requires c κs =
     let a = c .before .before .before .before .before .before .args in
     let P = c .before .before .before .before .before .before .pre in
     let f : c .before .before .before .before .place .result ≡ a .from % 4096 = c .before .before .before .before .place .ensures in
     let g : c .before .before .before .place2 .result ≡ a .to % 4096 = c .before .before .before .place2 .ensures in
     let z = P .1 .bytes (λ e. c .before .before .if1 .left (f ∙ e ∙ sym g)) in
-    (P .0, z .0, z .1, z .2)
+    (P .0, z .0, z .1, z .2, P .2, P .3)
 
 same-length-2 : tie.Need-same-length-2
 same-length-2 c = search needs
@@ -52,7 +52,7 @@ returns-2 c =
     let P = c .before .before .before .before .before .before .before .before .before .pre in
     let f : c .before .before .before .before .before .before .before .place .result ≡ a .from % 4096 = c .before .before .before .before .before .before .before .place .ensures in
     let g : c .before .before .before .before .before .before .place2 .result ≡ a .to % 4096 = c .before .before .before .before .before .before .place2 .ensures in
-    let h = c .before .before .copy-bytes .ensures in
+    let h = c .before .before .copy-over .ensures in
     (copy-uneven (storeOf (a .sheet .now)) (a .pool .now) (a .source) (a .from) (a .object) (a .to) (a .n) (λ e. c .before .before .before .before .before .if1 .left (f ∙ e ∙ sym g)) _ _ (h .0), h .2)
 
 pub copy-span-spec : {M : Type 1} → statement M
@@ -64,6 +64,6 @@ copy-span-spec =
     copy-equal-requires
     same-length
     returns
-    copy-bytes-requires
+    copy-over-requires
     same-length-2
     returns-2)

@@ -15,7 +15,7 @@ examine-requires : tie.Need-examine-requires
 examine-requires c κs = search needs
 
 zero-requires : tie.Need-zero-requires
-zero-requires c κs = λ t. let E = tried (c .before .before .examine .ensures) .enters t in (E .sound, E .framed)
+zero-requires c κs = λ t. let E = tried (c .before .before .examine .ensures) .enters t in (E .sound, E .framed, E .held)
 
 returns : tie.Need-returns
 returns c =

@@ -51,7 +51,7 @@ locate-requires c κs =
     let r : (x : List ℕ) → length x ≡ a .pool → 0 ≡ refusal (a .s) x (show (a .object) (a .page .0)) = λ x e. sym k ∙ refuses T x _ (q .ensures x e) in
     let A = accepts-length (a .s) (a .pool) (a .object) (a .page .0) r in
     let E = T .enters (T .test ∙ says-sound (a .s) (A .sound)) in
-    (entered-charted (a .s) _ _ E, omega (arith, c .before .before .line-of .ensures, A .page, A .name))
+    (entered-charted E, omega (arith, c .before .before .line-of .ensures, A .page, A .name))
 
 enum-told : tie.Need-enum-told
 enum-told c = search needs
