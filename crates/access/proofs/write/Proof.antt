@@ -19,33 +19,33 @@ examine-requires : tie.Need-examine-requires
 examine-requires c κs = search needs
 
 write-requires : tie.Need-write-requires
-write-requires c κs = λ t. let E = tried (c .before .before .examine .ensures) .enters t in (E .sound, E .framed, E .held)
+write-requires c κs = λ t. let E = tried (c .before .before .before .examine .ensures) .enters t in (E .sound, E .framed, E .held)
 
 returns : tie.Need-returns
 returns c =
-    let a = c .before .before .before .before .before .before .before .before .before .before .args in
-    with-refused (write (a .object) (a .offset) (a .src .now)) (a .s) (a .pool .now) done (c .before .write .result) (c .if1 .taken) (refuses (tried (c .before .before .before .before .examine .ensures)) _ _ (c .before .write .ensures (a .pool .now) (a .src .now) refl refl)) (λ j. refl)
+    let a = c .before .before .before .before .before .before .before .before .before .before .before .args in
+    with-refused (write (a .object) (a .offset) (a .src .now)) (a .s) (a .pool .now) done (c .before .write .result) (c .if1 .taken) (refuses (tried (c .before .before .before .before .before .examine .ensures)) _ _ (c .before .write .ensures (a .pool .now) (a .src .now) refl refl)) (λ j. refl)
 
 overwrite-pages-requires : tie.Need-overwrite-pages-requires
 overwrite-pages-requires c κs =
-    let a = c .before .before .before .before .before .before .before .before .before .before .before .before .before .args in
-    let e = c .before .before .before .before .write .ensures in
-    let T = tried (c .before .before .before .before .before .before .before .examine .ensures) in
-    let k : c .before .before .before .before .write .result ≡ 0 = omega (arith, c .before .before .before .if1 .left) in
+    let a = c .before .before .before .before .before .before .before .before .before .before .before .before .before .before .before .args in
+    let e = c .before .before .before .before .before .write .ensures in
+    let T = tried (c .before .before .before .before .before .before .before .before .before .examine .ensures) in
+    let k : c .before .before .before .before .before .write .result ≡ 0 = omega (arith, c .before .before .before .before .if1 .left) in
     let E = accepted T _ _ (e (a .pool .now) (a .src .now) refl refl) k in
     let r : 0 ≡ refusal (a .s) (a .pool .now) (write (a .object) (a .offset) (a .src .now)) = sym k ∙ refuses T _ _ (e (a .pool .now) (a .src .now) refl refl) in
     let R = write-enters (a .s) (a .pool .now) (T .sized) (a .object) (a .offset) (a .src .now) r in
-    (entered-charted E, rw (E .store) R)
+    (entered-charted E, rw (E .store) R, E .held)
 
 same-length : tie.Need-same-length
 same-length c = search needs
 
 returns-2 : tie.Need-returns-2
 returns-2 c =
-    let a = c .before .before .before .before .before .before .before .before .before .before .before .before .before .before .before .before .before .args in
-    let e = c .before .before .before .before .before .before .before .before .write .ensures in
-    let T = tried (c .before .before .before .before .before .before .before .before .before .before .before .examine .ensures) in
-    let k : c .before .before .before .before .before .before .before .before .write .result ≡ 0 = omega (arith, c .before .before .before .before .before .before .before .if1 .left) in
+    let a = c .before .before .before .before .before .before .before .before .before .before .before .before .before .before .before .before .before .before .before .args in
+    let e = c .before .before .before .before .before .before .before .before .before .write .ensures in
+    let T = tried (c .before .before .before .before .before .before .before .before .before .before .before .before .before .examine .ensures) in
+    let k : c .before .before .before .before .before .before .before .before .before .write .result ≡ 0 = omega (arith, c .before .before .before .before .before .before .before .before .if1 .left) in
     let E = accepted T _ _ (e (a .pool .now) (a .src .now) refl refl) k in
     let r : 0 ≡ refusal (a .s) (a .pool .now) (write (a .object) (a .offset) (a .src .now)) = sym k ∙ refuses T _ _ (e (a .pool .now) (a .src .now) refl refl) in
     let R = write-enters (a .s) (a .pool .now) (T .sized) (a .object) (a .offset) (a .src .now) r in
@@ -55,10 +55,10 @@ returns-2 c =
 
 add-write-pages : tie.Need-add-write-pages
 add-write-pages c =
-    let a = c .before .before .before .before .before .before .before .before .before .before .before .before .before .before .before .before .before .before .before .args in
-    let e = c .before .before .before .before .before .before .before .before .before .before .write .ensures in
-    let T = tried (c .before .before .before .before .before .before .before .before .before .before .before .before .before .examine .ensures) in
-    let k : c .before .before .before .before .before .before .before .before .before .before .write .result ≡ 0 = omega (arith, c .before .before .before .before .before .before .before .before .before .if1 .left) in
+    let a = c .before .before .before .before .before .before .before .before .before .before .before .before .before .before .before .before .before .before .before .before .before .args in
+    let e = c .before .before .before .before .before .before .before .before .before .before .before .write .ensures in
+    let T = tried (c .before .before .before .before .before .before .before .before .before .before .before .before .before .before .before .examine .ensures) in
+    let k : c .before .before .before .before .before .before .before .before .before .before .before .write .result ≡ 0 = omega (arith, c .before .before .before .before .before .before .before .before .before .before .if1 .left) in
     let E = accepted T _ _ (e (a .pool .now) (a .src .now) refl refl) k in
     let r : 0 ≡ refusal (a .s) (a .pool .now) (write (a .object) (a .offset) (a .src .now)) = sym k ∙ refuses T _ _ (e (a .pool .now) (a .src .now) refl refl) in
     let R = write-enters (a .s) (a .pool .now) (T .sized) (a .object) (a .offset) (a .src .now) r in
@@ -77,10 +77,10 @@ part-write-pages-end c = search needs
 
 write-pages-requires : tie.Need-write-pages-requires
 write-pages-requires c κs =
-    let a = c .before .before .before .before .before .before .before .before .before .before .before .before .before .before .before .before .before .before .before .before .args in
-    let e = c .before .before .before .before .before .before .before .before .before .before .before .write .ensures in
-    let T = tried (c .before .before .before .before .before .before .before .before .before .before .before .before .before .before .examine .ensures) in
-    let k : c .before .before .before .before .before .before .before .before .before .before .before .write .result ≡ 0 = omega (arith, c .before .before .before .before .before .before .before .before .before .before .if1 .left) in
+    let a = c .before .before .before .before .before .before .before .before .before .before .before .before .before .before .before .before .before .before .before .before .before .before .args in
+    let e = c .before .before .before .before .before .before .before .before .before .before .before .before .write .ensures in
+    let T = tried (c .before .before .before .before .before .before .before .before .before .before .before .before .before .before .before .before .examine .ensures) in
+    let k : c .before .before .before .before .before .before .before .before .before .before .before .before .write .result ≡ 0 = omega (arith, c .before .before .before .before .before .before .before .before .before .before .before .if1 .left) in
     let E = accepted T _ _ (e (a .pool .now) (a .src .now) refl refl) k in
     let r : 0 ≡ refusal (a .s) (a .pool .now) (write (a .object) (a .offset) (a .src .now)) = sym k ∙ refuses T _ _ (e (a .pool .now) (a .src .now) refl refl) in
     let R = write-enters (a .s) (a .pool .now) (T .sized) (a .object) (a .offset) (a .src .now) r in
@@ -113,10 +113,10 @@ same-length-2 c = search needs
 returns-3 : tie.Need-returns-3
 returns-3 c =
     let b = c .before .before .before .before .before .before .before .before .before .before .before .before in
-    let a = b .before .before .before .before .before .before .before .before .before .before .before .before .before .before .before .before .before .before .before .before .before .before .before .args in
-    let e = b .before .before .before .before .before .before .before .before .before .before .before .before .before .before .write .ensures in
-    let T = tried (b .before .before .before .before .before .before .before .before .before .before .before .before .before .before .before .before .before .examine .ensures) in
-    let k : b .before .before .before .before .before .before .before .before .before .before .before .before .before .before .write .result ≡ 0 = omega (arith, b .before .before .before .before .before .before .before .before .before .before .before .before .before .if1 .left) in
+    let a = b .before .before .before .before .before .before .before .before .before .before .before .before .before .before .before .before .before .before .before .before .before .before .before .before .before .args in
+    let e = b .before .before .before .before .before .before .before .before .before .before .before .before .before .before .before .write .ensures in
+    let T = tried (b .before .before .before .before .before .before .before .before .before .before .before .before .before .before .before .before .before .before .before .examine .ensures) in
+    let k : b .before .before .before .before .before .before .before .before .before .before .before .before .before .before .before .write .result ≡ 0 = omega (arith, b .before .before .before .before .before .before .before .before .before .before .before .before .before .before .if1 .left) in
     let E = accepted T _ _ (e (a .pool .now) (a .src .now) refl refl) k in
     let r : 0 ≡ refusal (a .s) (a .pool .now) (write (a .object) (a .offset) (a .src .now)) = sym k ∙ refuses T _ _ (e (a .pool .now) (a .src .now) refl refl) in
     let R = write-enters (a .s) (a .pool .now) (T .sized) (a .object) (a .offset) (a .src .now) r in

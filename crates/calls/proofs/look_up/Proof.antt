@@ -40,22 +40,22 @@ line-of-requires c κs =
 
 state-of-requires : tie.Need-state-of-requires
 state-of-requires c κs =
-    let a = c .before .before .before .before .before .before .before .before .before .before .args in
-    let q = c .before .before .before .before .look-up in
-    let T = tried (c .before .before .before .before .before .before .examine .ensures) in
-    let k : q .result ≡ 0 = omega (arith, c .before .before .before .if1 .left) in
-    let r : (x : List ℕ) → 0 ≡ refusal (a .s) x (lookUp (a .object) (a .page .0)) = λ x. sym k ∙ refuses T x _ (q .ensures x) in
-    (entered-charted (accepted T [] _ (q .ensures []) k), omega (arith, c .before .before .line-of .ensures, look-page (a .s) (a .object) (a .page .0) r))
-
-returns-2 : tie.Need-returns-2
-returns-2 c =
     let a = c .before .before .before .before .before .before .before .before .before .before .before .args in
     let q = c .before .before .before .before .before .look-up in
     let T = tried (c .before .before .before .before .before .before .before .examine .ensures) in
     let k : q .result ≡ 0 = omega (arith, c .before .before .before .before .if1 .left) in
     let r : (x : List ℕ) → 0 ≡ refusal (a .s) x (lookUp (a .object) (a .page .0)) = λ x. sym k ∙ refuses T x _ (q .ensures x) in
+    (entered-charted (accepted T [] _ (q .ensures []) k), omega (arith, c .before .before .before .line-of .ensures, look-page (a .s) (a .object) (a .page .0) r), accepted T [] _ (q .ensures []) k .held)
+
+returns-2 : tie.Need-returns-2
+returns-2 c =
+    let a = c .before .before .before .before .before .before .before .before .before .before .before .before .args in
+    let q = c .before .before .before .before .before .before .look-up in
+    let T = tried (c .before .before .before .before .before .before .before .before .examine .ensures) in
+    let k : q .result ≡ 0 = omega (arith, c .before .before .before .before .before .if1 .left) in
+    let r : (x : List ℕ) → 0 ≡ refusal (a .s) x (lookUp (a .object) (a .page .0)) = λ x. sym k ∙ refuses T x _ (q .ensures x) in
     let e : c .state-of .result ≡ seen (a .s) (located (a .s) (line (a .object) (a .page .0))) =
-    c .state-of .ensures ∙ ap₂ (λ (t : Store) (g : ℕ). seen t (located t g)) (accepted T [] _ (q .ensures []) k .store) (c .before .before .before .line-of .ensures) in
+    c .state-of .ensures ∙ ap₂ (λ (t : Store) (g : ℕ). seen t (located t g)) (accepted T [] _ (q .ensures []) k .store) (c .before .before .before .before .line-of .ensures) in
     (look-done (a .s) (T .sized) (a .object) (a .page .0) r (c .state-of .result) e, λ l. absurd (omega arith))
 
 pub look-up-spec : {M : Type 1} → statement M

@@ -18,19 +18,19 @@ examine-requires : tie.Need-examine-requires
 examine-requires c κs = search needs
 
 copy-requires : tie.Need-copy-requires
-copy-requires c κs = λ t. let E = tried (c .before .before .examine .ensures) .enters t in (E .sound, E .framed, E .held)
+copy-requires c κs = λ t. let E = tried (c .before .before .before .examine .ensures) .enters t in (E .sound, E .framed, E .held)
 
 returns : tie.Need-returns
 returns c =
-    let a = c .before .before .before .before .before .before .before .before .before .args in
-    with-refused (copy (a .source) (a .from) (a .object) (a .to) (a .n)) (a .s) (a .pool .now) done (c .before .copy .result) (c .if1 .taken) (refuses (tried (c .before .before .before .before .examine .ensures)) _ _ (c .before .copy .ensures (a .pool .now) refl)) (λ j. refl)
+    let a = c .before .before .before .before .before .before .before .before .before .before .args in
+    with-refused (copy (a .source) (a .from) (a .object) (a .to) (a .n)) (a .s) (a .pool .now) done (c .before .copy .result) (c .if1 .taken) (refuses (tried (c .before .before .before .before .before .examine .ensures)) _ _ (c .before .copy .ensures (a .pool .now) refl)) (λ j. refl)
 
 copy-span-requires : tie.Need-copy-span-requires
 copy-span-requires c κs =
-    let a = c .before .before .before .before .before .before .before .before .before .before .before .args in
-    let e = c .before .before .before .copy .ensures in
-    let T = tried (c .before .before .before .before .before .before .examine .ensures) in
-    let k : c .before .before .before .copy .result ≡ 0 = omega (arith, c .before .before .if1 .left) in
+    let a = c .before .before .before .before .before .before .before .before .before .before .before .before .before .before .args in
+    let e = c .before .before .before .before .before .copy .ensures in
+    let T = tried (c .before .before .before .before .before .before .before .before .before .examine .ensures) in
+    let k : c .before .before .before .before .before .copy .result ≡ 0 = omega (arith, c .before .before .before .before .if1 .left) in
     let E = accepted T _ _ (e (a .pool .now) refl) k in
     let r : 0 ≡ refusal (a .s) (a .pool .now) (copy (a .source) (a .from) (a .object) (a .to) (a .n)) = sym k ∙ refuses T _ _ (e (a .pool .now) refl) in
     let q : CopyRoom (a .s) (a .pool .now) (a .source) (a .from) (a .object) (a .to) (a .n) = record {
@@ -63,10 +63,10 @@ same-length c = search needs
 returns-2 : tie.Need-returns-2
 returns-2 c =
     let b = c .before .before .before .before .before .before .before .before .before .before .before .before in
-    let a = b .before .before .before .before .before .before .before .before .before .before .before .before .before .before .args in
-    let e = b .before .before .before .before .before .before .copy .ensures in
-    let T = tried (b .before .before .before .before .before .before .before .before .before .examine .ensures) in
-    let k : b .before .before .before .before .before .before .copy .result ≡ 0 = omega (arith, b .before .before .before .before .before .if1 .left) in
+    let a = b .before .before .before .before .before .before .before .before .before .before .before .before .before .before .before .before .before .args in
+    let e = b .before .before .before .before .before .before .before .before .copy .ensures in
+    let T = tried (b .before .before .before .before .before .before .before .before .before .before .before .before .examine .ensures) in
+    let k : b .before .before .before .before .before .before .before .before .copy .result ≡ 0 = omega (arith, b .before .before .before .before .before .before .before .if1 .left) in
     let E = accepted T _ _ (e (a .pool .now) refl) k in
     let r : 0 ≡ refusal (a .s) (a .pool .now) (copy (a .source) (a .from) (a .object) (a .to) (a .n)) = sym k ∙ refuses T _ _ (e (a .pool .now) refl) in
     let S = rw (E .store) at (b .before .before .copy-span .ensures .0) in

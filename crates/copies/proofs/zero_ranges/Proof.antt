@@ -15,18 +15,18 @@ examine-requires : tie.Need-examine-requires
 examine-requires c κs = search needs
 
 zero-requires : tie.Need-zero-requires
-zero-requires c κs = λ t. let E = tried (c .before .before .examine .ensures) .enters t in (E .sound, E .framed, E .held)
+zero-requires c κs = λ t. let E = tried (c .before .before .before .examine .ensures) .enters t in (E .sound, E .framed, E .held)
 
 returns : tie.Need-returns
 returns c =
-    let a = c .before .before .before .before .before .before .before .before .before .args in
-    with-refused (zeroOut (a .object) (a .offset) (a .n)) (a .s) (a .pool .now) done (c .before .zero .result) (c .if1 .taken) (refuses (tried (c .before .before .before .before .examine .ensures)) _ _ (c .before .zero .ensures (a .pool .now) refl)) (λ j. refl)
+    let a = c .before .before .before .before .before .before .before .before .before .before .args in
+    with-refused (zeroOut (a .object) (a .offset) (a .n)) (a .s) (a .pool .now) done (c .before .zero .result) (c .if1 .taken) (refuses (tried (c .before .before .before .before .before .examine .ensures)) _ _ (c .before .zero .ensures (a .pool .now) refl)) (λ j. refl)
 
 zero-span-requires : tie.Need-zero-span-requires
 zero-span-requires c κs =
-    let a = c .before .before .before .before .before .before .before .before .before .before .before .args in
+    let a = c .before .before .before .before .before .before .before .before .before .before .before .before .args in
     let e = c .before .before .before .zero .ensures in
-    let T = tried (c .before .before .before .before .before .before .examine .ensures) in
+    let T = tried (c .before .before .before .before .before .before .before .examine .ensures) in
     let k : c .before .before .before .zero .result ≡ 0 = omega (arith, c .before .before .if1 .left) in
     let E = accepted T _ _ (e (a .pool .now) refl) k in
     let r : 0 ≡ refusal (a .s) (a .pool .now) (zeroOut (a .object) (a .offset) (a .n)) = sym k ∙ refuses T _ _ (e (a .pool .now) refl) in
@@ -40,9 +40,9 @@ same-length c = search needs
 
 returns-2 : tie.Need-returns-2
 returns-2 c =
-    let a = c .before .before .before .before .before .before .before .before .before .before .before .before .before .before .before .before .args in
+    let a = c .before .before .before .before .before .before .before .before .before .before .before .before .before .before .before .before .before .args in
     let e = c .before .before .before .before .before .before .before .before .zero .ensures in
-    let T = tried (c .before .before .before .before .before .before .before .before .before .before .before .examine .ensures) in
+    let T = tried (c .before .before .before .before .before .before .before .before .before .before .before .before .examine .ensures) in
     let k : c .before .before .before .before .before .before .before .before .zero .result ≡ 0 = omega (arith, c .before .before .before .before .before .before .before .if1 .left) in
     let E = accepted T _ _ (e (a .pool .now) refl) k in
     let r : 0 ≡ refusal (a .s) (a .pool .now) (zeroOut (a .object) (a .offset) (a .n)) = sym k ∙ refuses T _ _ (e (a .pool .now) refl) in
