@@ -1,6 +1,5 @@
 -- Loops that store one element a turn: the list is then pasted over.
 use mathlib.Core.Path.{_≡_, refl, sym, ap, _∙_}
-use mathlib.Core.Logic.{_⊎_, ⊎-elim}
 use mathlib.Core.List.{List, [], _++_}
 use Prim.Native.Nat.{ℕ, zero, suc, _+_, _-_, _≤_, _<_}
 use native.Mathlib.Numerals.{add-one, unary-clauses}
@@ -77,13 +76,3 @@ module _ {A : Type 0} where
       ∙ getD-append-add (take at d ++ take n s) (drop (at + n) d) (k - (at + n)) z
       ∙ getD-drop (at + n) d (k - (at + n)) z
       ∙ ap (λ (j : ℕ). getD d j z) e′
-
-  -- an element outside what was written so far, read by the loop that copies within one list
-  pub within : (d : List A) (at from i n : ℕ) (z : A) (cur : List A) → (at + n ≤ from) ⊎ (from + n ≤ at) → at + n ≤ length d → from + n ≤ length d → i < n
-      → cur ≡ paste d at (drop from d) i → getD cur (from + i) z ≡ getD (drop from d) i z
-  within d at from i n z cur apart ha hf h e =
-      let k : i ≤ length (drop from d) = simp length-drop (omega arith) in
-      ap (λ (l : List A). getD l (from + i) z) e
-      ∙ ⊎-elim (λ (a : at + n ≤ from). paste-above d at (drop from d) i (from + i) z (omega arith) k (omega arith))
-      (λ (b : from + n ≤ at). paste-below d at (drop from d) i (from + i) z (omega arith) k (omega arith)) apart
-      ∙ sym (getD-drop from d i z)

@@ -58,8 +58,6 @@ pub record Taken (s : Store) (f : ℕ) (t : Store) : Type 0 where
 
 -- ---- a frame released, as the code finds it
 module _ (s : Store) (p : Place) where
-  abbrev found : Frame
-  found = frameAt (p .backing) (p .index) 0 (take (s .frames) (s .places))
 
   pub found-below : (k : ℕ) → frameAt (p .backing) (p .index) 0 (take (s .frames) (s .places)) ≡ At k → k < s .frames
   found-below k e =

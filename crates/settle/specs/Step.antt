@@ -36,8 +36,6 @@ use Rattle.settle.specs.Depart.{departed, goneAt, oldSlot, Taken}
 
 -- what departs from a store with another table is what leaves
 module _ (s : Store) (u : RangeTable) (g b i : ℕ) where
-  abbrev new : Store
-  new = withTable u s
 
   abbrev names : ℕ → ℕ → Bool
   names c j = named c j (rangesOf (take (u .count) (u .ranges)))

@@ -11,7 +11,7 @@ use Rattle.pages.specs.Added.{spot-lodged}
 use Rattle.pages.specs.Leaving.{spot-gentle}
 use Rattle.pages.specs.Steps.{frame-inside, add-stepped}
 use Rattle.sheet.specs.Sheet.{storeOf}
-use Rattle.steps.specs.Ready.{inside-zeros}
+use Rattle.pages.specs.Any.{inside-zeros}
 use Rattle.steps.proofs.add_page.Statement.{statement}
 use Rattle.steps.proofs.add_page.Tie as tie
 

@@ -10,7 +10,7 @@ use Rattle.pages.specs.Added.{own-lodged}
 use Rattle.pages.specs.Leaving.{own-gentle}
 use Rattle.pages.specs.Steps.{frame-inside, copy-stepped}
 use Rattle.sheet.specs.Sheet.{storeOf}
-use Rattle.steps.specs.Ready.{inside-zeros}
+use Rattle.pages.specs.Any.{inside-zeros}
 use Rattle.steps.proofs.copy_page.Statement.{statement}
 use Rattle.steps.proofs.copy_page.Tie as tie
 
