@@ -10,7 +10,7 @@ use Rattle.ranges.specs.Range.{Ranged, from, upto, carve, put, Rising}
 use Rattle.ranges.specs.Cut.{carve-rising}
 use Rattle.ranges.specs.Piece.{Piece}
 use Rattle.ranges.specs.Over.{put-rising, put-all, carve-all}
-use Rattle.ranges.specs.Few.{carve-more, put-more}
+use Rattle.ranges.specs.Few.{put-more}
 use Rattle.table.specs.declared.PageRange.{PageRange}
 use Rattle.table.specs.declared.BackingPages.{BackingPages}
 use Rattle.table.specs.Table.{Table, Small, ranged, unranged, rangedOf, zeroRange}
@@ -86,7 +86,3 @@ module _ (R : List PageRange) (count : ℕ) (T : Table R count) where
   unfolding cutTable
   cut-keeps a e h room r q =
       rw q (tabled-table (carve a e used) room (carve-rising a e 0 used (omega arith) (T .rising)) (carve-all tiny-piece a e used tiny))
-
-  -- a cut leaves at most one range more
-  pub cut-fits : (a e : ℕ) → a < e → count + 1 ≤ 512 → length (carve a e used) ≤ 512
-  cut-fits a e h f = omega (arith, carve-more a e 0 used (omega arith) (T .rising), used-length R count T)

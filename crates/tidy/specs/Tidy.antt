@@ -4,7 +4,7 @@ use mathlib.Core.Bool.{not}
 use mathlib.Core.List.{List}
 use Prim.Native.Nat.{ℕ, _+_, _*_, _/_, _%_, _≤_, _<_}
 use native.Mathlib.Omega.{arith}
-use lib.ListN.{drop, length, length-drop, getD, set, take}
+use lib.ListN.{drop, length, length-drop, getD, take}
 use lib.Seq.{length-take-le, set-getD, take-all}
 use Rattle.places.specs.declared.Place.{Place}
 use Rattle.store.specs.declared.Store.{Store}
@@ -15,7 +15,7 @@ use Rattle.ranges.specs.Range.{Range}
 use Rattle.ranges.specs.Table.{named}
 use Rattle.table.specs.Table.{rangesOf}
 use Rattle.places.specs.Places.{nowhere, placeAt}
-use Rattle.trim.specs.Trim.{keptPlace}
+use Rattle.store.specs.Trim.{keptPlace}
 use Rattle.chains.specs.Chains.{Chained}
 use Rattle.columns.specs.Ranges.{Spans, Tags}
 use Rattle.store.specs.Abs.{used}
