@@ -1,12 +1,12 @@
 -- A table stays a table when a range is put over its span, or pages are cut out.
-use mathlib.Core.Path.{_≡_, refl, ap, sym, _∙_}
+use mathlib.Core.Path.{_≡_, refl, ap, _∙_}
 use mathlib.Core.Logic.{⊎-elim}
 use mathlib.Core.List.{List, [], _∷_, _++_, map, List·Memᴰ, List·Memᴰ·head, List·Memᴰ·tail, List·Memᴰ·not-nil, List·Memᴰ·cases-cons}
 use Prim.Native.Nat.{ℕ, zero, suc, _+_, _-_, _≤_, _<_}
 use native.Mathlib.Omega.{arith}
-use lib.ListN.{length, getD, take, drop, replicate, length-map, length-append, length-replicate, List·getD-map, List·getD-append}
-use lib.Seq.{take-at, getD-take}
-use Rattle.ranges.specs.Range.{Ranged, from, upto, carve, put, Rising}
+use lib.ListN.{length, getD, take, replicate, length-map, length-append, length-replicate, List·getD-map, List·getD-append}
+use lib.Seq.{take-at}
+use Rattle.ranges.specs.Range.{Ranged, carve, put, Rising}
 use Rattle.ranges.specs.Cut.{carve-rising}
 use Rattle.ranges.specs.Piece.{Piece}
 use Rattle.ranges.specs.Over.{put-rising, put-all, carve-all}
@@ -16,7 +16,7 @@ use Rattle.table.specs.declared.BackingPages.{BackingPages}
 use Rattle.table.specs.Table.{Table, Small, ranged, unranged, rangedOf, zeroRange}
 use Rattle.table.specs.Searching.{used-length, used-at}
 use Rattle.edit.specs.declared.RangeTable.{RangeTable}
-use Rattle.edit.specs.Edit.{padded, tabled, putTable, cutTable}
+use Rattle.edit.specs.Edit.{padded, putTable, cutTable}
 use mathlib.Core.List.{List·Memᴰ·not-nil}
 
 -- the numbers of a range are small
@@ -51,12 +51,6 @@ tabled-table X h s t =
           rw e (record { ends = m .0; indexes = m .1 });
       rising = rw (take-at (map unranged X) (replicate (512 - length (map unranged X)) zeroRange) (length X) l, back-there X) s;
     }
-
-pub empty-keeps : (z : PageRange) → z ≡ zeroRange → (r : RangeTable) → r ≡ record { ranges = replicate 512 z; count = 0 } → (r ≡ tabled []) × (Table (r .ranges) (r .count))
-unfolding Rising padded
-empty-keeps z e r h =
-    let k : record { ranges = replicate 512 z; count = 0 } ≡ tabled [] = ap (λ (y : PageRange). record { ranges = replicate 512 y; count = 0 }) e in
-    (h ∙ k, rw (h ∙ k) (tabled-table [] (omega arith) tt (λ q m. absurd (List·Memᴰ·not-nil m))))
 
 module _ (R : List PageRange) (count : ℕ) (T : Table R count) where
   abbrev used : List (Ranged BackingPages)
