@@ -1,1 +1,1 @@
-// Definitions and laws only: see specs/.
+// Document 01's run book. Definitions and laws only: see specs/.

@@ -1,7 +1,6 @@
 // THE CALLS THAT NEED NO BYTES OF A PAGE. Each takes any store and any arguments. Its number is 0, or that of the table.
 use look::State;
 use page::PageNumber;
-use places::Place;
 use store::Store;
 ghost use mathlib.Core.Path.{_≡_};
 ghost use mathlib.Core.Bool.{true};
@@ -137,22 +136,9 @@ fn empty_store(frames: usize) -> Store
     requires { ⌜ frames ≤ 1024 ⌝ }
     ensures { λ r. ⌜ (Blank r) × (r .frames ≡ frames) ⌝ }
 {
-    let p = Place {
-        backing: 0,
-        index: 0,
-    };
-    let places = [p; 1024];
-    let free = places::free_map(places, frames);
-    let t = edit::empty_table();
-    let ranges = t.ranges;
-    Store {
-        frames,
-        live: 0,
-        count: t.count,
-        ranges,
-        places,
-        free,
-    }
+    let mut sheet = [0u64; 2579];
+    sheet::set_frames(&mut sheet, frames);
+    closing::closed(&sheet)
 }
 
 // "A refused creation of a store hands back the empty store of one frame."

@@ -1,7 +1,7 @@
 -- Columns of numbers that say what stands in a table, and the loops that make them.
 use mathlib.Core.Path.{_≡_, sym, _∙_}
 use mathlib.Core.List.{List, map}
-use Prim.Native.Nat.{ℕ, _+_, _*_, _/_, _%_, _<_}
+use Prim.Native.Nat.{ℕ, _+_, _/_, _%_, _<_}
 use native.Mathlib.Nat.{not-suc-le-zero}
 use native.Mathlib.Omega.{arith}
 use lib.ListN.{getD, length, length-map, set, List·getD-map}
@@ -20,13 +20,6 @@ spotted l = map spotOf l
 pub spot-at : (l : List ℕ) (f : ℕ) → placeAt (spotted l) f ≡ spotOf (getD l f 0)
 unfolding spotted
 spot-at l f = List·getD-map spotOf l f 0
-
--- a place is told by the number that is made of it
-pub spot-told : (p : Place) → p .index < 4294967296 → spotOf (p .backing * 4294967296 + p .index) ≡ p
-spot-told p h =
-    let b : (p .backing * 4294967296 + p .index) / 4294967296 ≡ p .backing = omega arith in
-    let i : (p .backing * 4294967296 + p .index) % 4294967296 ≡ p .index = omega arith in
-    λ j. record { backing = b j; index = i j }
 
 -- ---- a column that is filled from the front: the first n numbers are right
 pub record Filled (P : ℕ → ℕ → Type 0) (n : ℕ) (l : List ℕ) : Type 0 where

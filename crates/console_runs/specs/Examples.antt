@@ -2,7 +2,6 @@
 use mathlib.Core.Path.{_≡_, refl}
 use mathlib.Core.List.{List, [], _∷_, _++_}
 use Prim.Native.Nat.{ℕ}
-use Prim.Native.String.{String}
 use Rattle.lines.specs.Text.{codes}
 use Rattle.console.specs.Lines.{feed}
 use Rattle.console_runs.specs.Input.{linesFrom, inputLines}

@@ -1,5 +1,5 @@
 -- Edits of the store's table of ranges.
-use mathlib.Core.List.{List, [], _∷_, _++_, map}
+use mathlib.Core.List.{List, _++_, map}
 use Prim.Native.Nat.{ℕ, _+_, _-_}
 use lib.ListN.{length, take, drop, replicate}
 use Rattle.ranges.specs.Range.{Ranged, carve, put}

@@ -6,14 +6,12 @@ use native.Mathlib.Omega.{arith}
 use lib.ListN.{length, getD, take, drop, length-map, length-append, length-drop}
 use lib.Seq.{length-take-le}
 use borrow.Author.Tests.{lt-ltb, le-ltb}
-use Rattle.lists.specs.Test.{pick}
 use Rattle.ranges.specs.Range.{Ranged, from, upto, front, back, carve, put}
 use Rattle.ranges.specs.Search.{startsBefore, endsBy}
 use Rattle.ranges.specs.Around.{Around, around-is, fronts, backs, carve-around, put-around}
 use Rattle.table.specs.declared.PageRange.{PageRange}
 use Rattle.table.specs.declared.BackingPages.{BackingPages}
-use Rattle.edit.specs.declared.RangeTable.{RangeTable}
-use Rattle.table.specs.Table.{Table, Small, ranged, unranged, rangedOf, zeroRange}
+use Rattle.table.specs.Table.{Table, ranged, unranged, rangedOf, zeroRange}
 use Rattle.edit.specs.Edit.{padded, spliced, tabled, putTable, cutTable}
 use Rattle.table.specs.Searching.{used-length, used-at, starts-count}
 

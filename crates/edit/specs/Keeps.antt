@@ -1,22 +1,22 @@
 -- A table stays a table when a range is put over its span, or pages are cut out.
-use mathlib.Core.Path.{_≡_, refl, ap, sym, _∙_}
+use mathlib.Core.Path.{_≡_, refl, ap, _∙_}
 use mathlib.Core.Logic.{⊎-elim}
 use mathlib.Core.List.{List, [], _∷_, _++_, map, List·Memᴰ, List·Memᴰ·head, List·Memᴰ·tail, List·Memᴰ·not-nil, List·Memᴰ·cases-cons}
 use Prim.Native.Nat.{ℕ, zero, suc, _+_, _-_, _≤_, _<_}
 use native.Mathlib.Omega.{arith}
-use lib.ListN.{length, getD, take, drop, replicate, length-map, length-append, length-replicate, List·getD-map, List·getD-append}
-use lib.Seq.{take-at, getD-take}
-use Rattle.ranges.specs.Range.{Ranged, from, upto, carve, put, Rising}
+use lib.ListN.{length, getD, take, replicate, length-map, length-append, length-replicate, List·getD-map, List·getD-append}
+use lib.Seq.{take-at}
+use Rattle.ranges.specs.Range.{Ranged, carve, put, Rising}
 use Rattle.ranges.specs.Cut.{carve-rising}
 use Rattle.ranges.specs.Piece.{Piece}
 use Rattle.ranges.specs.Over.{put-rising, put-all, carve-all}
-use Rattle.ranges.specs.Few.{carve-more, put-more}
+use Rattle.ranges.specs.Few.{put-more}
 use Rattle.table.specs.declared.PageRange.{PageRange}
 use Rattle.table.specs.declared.BackingPages.{BackingPages}
 use Rattle.table.specs.Table.{Table, Small, ranged, unranged, rangedOf, zeroRange}
 use Rattle.table.specs.Searching.{used-length, used-at}
 use Rattle.edit.specs.declared.RangeTable.{RangeTable}
-use Rattle.edit.specs.Edit.{padded, tabled, putTable, cutTable}
+use Rattle.edit.specs.Edit.{padded, putTable, cutTable}
 use mathlib.Core.List.{List·Memᴰ·not-nil}
 
 -- the numbers of a range are small
@@ -52,12 +52,6 @@ tabled-table X h s t =
       rising = rw (take-at (map unranged X) (replicate (512 - length (map unranged X)) zeroRange) (length X) l, back-there X) s;
     }
 
-pub empty-keeps : (z : PageRange) → z ≡ zeroRange → (r : RangeTable) → r ≡ record { ranges = replicate 512 z; count = 0 } → (r ≡ tabled []) × (Table (r .ranges) (r .count))
-unfolding Rising padded
-empty-keeps z e r h =
-    let k : record { ranges = replicate 512 z; count = 0 } ≡ tabled [] = ap (λ (y : PageRange). record { ranges = replicate 512 y; count = 0 }) e in
-    (h ∙ k, rw (h ∙ k) (tabled-table [] (omega arith) tt (λ q m. absurd (List·Memᴰ·not-nil m))))
-
 module _ (R : List PageRange) (count : ℕ) (T : Table R count) where
   abbrev used : List (Ranged BackingPages)
   used = rangedOf (take count R)
@@ -86,7 +80,3 @@ module _ (R : List PageRange) (count : ℕ) (T : Table R count) where
   unfolding cutTable
   cut-keeps a e h room r q =
       rw q (tabled-table (carve a e used) room (carve-rising a e 0 used (omega arith) (T .rising)) (carve-all tiny-piece a e used tiny))
-
-  -- a cut leaves at most one range more
-  pub cut-fits : (a e : ℕ) → a < e → count + 1 ≤ 512 → length (carve a e used) ≤ 512
-  cut-fits a e h f = omega (arith, carve-more a e 0 used (omega arith) (T .rising), used-length R count T)

@@ -1,4 +1,3 @@
 pub mod Edit
-pub mod Splice
 pub mod Edits
 pub mod Keeps

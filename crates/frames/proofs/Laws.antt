@@ -1,4 +1,4 @@
--- What the loop of `highest` needs: the highest bit of the last word that is not 0 is the highest of all.
+-- What the search for the highest free frame needs: the highest bit of the last word that is not 0 is the highest of all.
 use mathlib.Core.Path.{_≡_, refl, ap, _∙_}
 use mathlib.Core.Logic.{⊎-elim}
 use mathlib.Core.List.{List}

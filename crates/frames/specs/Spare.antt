@@ -1,12 +1,10 @@
 -- The free map as the run book's list of free frames, the highest first.
 use mathlib.Core.Path.{_≡_, refl, ap, sym, _∙_}
-use mathlib.Core.Bool.{true, false}
-use mathlib.Core.Logic.{⊎-elim}
-use mathlib.Core.List.{List, [], _∷_, tail, List·Memᴰ, List·Memᴰ·head, List·Memᴰ·tail}
+use mathlib.Core.Bool.{false}
+use mathlib.Core.List.{List, [], _∷_, tail}
 use Prim.Native.Nat.{ℕ, zero, suc, _+_, _≤_, _<_}
-use native.Mathlib.Nat.{eq-or-lt-of-le, le-of-suc-le-suc, not-suc-le-zero}
 use native.Mathlib.Omega.{arith}
-use borrow.Author.Tests.{eq-eqb, eqb-true}
+use borrow.Author.Tests.{eqb-true}
 use Rattle.lists.specs.Test.{by-test}
 use Rattle.lists.specs.Every.{All}
 use Rattle.frames.specs.declared.Frame.the-variants.{At, Nothing}
@@ -57,15 +55,6 @@ module _ (ws : List ℕ) where
       by-test (isFree ws n)
       (λ t. rw t (eqb-true (freeBit ws n) 1 t, spare-set n))
       (λ t. rw t (spare-set n))
-
-  pub spare-member : (n f : ℕ) → f < n → freeBit ws f ≡ 1 → List·Memᴰ f (spareOf ws n)
-  unfolding spareOf
-  spare-member zero f h e = absurd (not-suc-le-zero h)
-  spare-member (suc n) f h e =
-      ⊎-elim
-      (λ (q : f ≡ n). let t : isFree ws n ≡ true = ap (isFree ws) (sym q) ∙ eq-eqb (freeBit ws f) 1 e in rw t (List·Memᴰ·head {x = n} q))
-      (λ (q : f < n). by-test (isFree ws n) (λ t. rw t (List·Memᴰ·tail (spare-member n f q e))) (λ t. rw t (spare-member n f q e)))
-      (eq-or-lt-of-le (le-of-suc-le-suc h))
 
   -- ---- the highest free frame is the list's head
   pub highest-head : (n : ℕ) → highestBelow ws n ≡ headOf (spareOf ws n)

@@ -154,12 +154,6 @@ unfolding parts
 parts-none a [] = refl
 parts-none a (r ∷ rs) = rw (part-none a (a + 0) r (omega arith), parts-none a rs)
 
--- sharing takes no frame
-share-spare : (ns : List Range) (w : Work) → share ns w .spare ≡ w .spare
-unfolding share
-share-spare [] w = refl
-share-spare (n ∷ ns) w = share-spare ns (withRanges (put n (w .ranges)) w)
-
 pub sharing-none : (s p o q : ℕ) (w : Work) → sharing s p o q 0 w ≡ w
 unfolding sharing share
 sharing-none s p o q w = rw (parts-none (line s p) (w .ranges))

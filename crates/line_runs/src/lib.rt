@@ -1,1 +1,1 @@
-// Definitions and laws only: see specs/.
+// Lists of lines, and what is printed for them. Definitions and laws only: see specs/.

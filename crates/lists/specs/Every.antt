@@ -9,7 +9,7 @@ use native.Mathlib.Numerals.{add-one}
 use native.Mathlib.Nat.{eq-or-lt-of-le, le-of-suc-le-suc, not-suc-le-zero}
 use lib.ListN.{getD, length, take}
 use lib.Seq.{take-suc}
-use Rattle.lists.specs.Test.{pick, by-test, and-left, and-right}
+use Rattle.lists.specs.Test.{and-left, and-right}
 
 pub both-true : (a b : Bool) → (a && b) ≡ true → (a ≡ true) × (b ≡ true)
 both-true a b h = (and-left a b h, and-right a b h)
@@ -87,9 +87,6 @@ module _ {A : Type 0} where
     every-fails (x ∷ xs) (suc n) zero d h k e = rw e
     every-fails (x ∷ xs) (suc n) (suc i) d h k e = rw (← every-fails xs n i d (le-of-suc-le-suc h) (le-of-suc-le-suc k) e) (sym (none-both (P x)))
 
-    pub every-done : (l : List A) (n i : ℕ) → every P (take i l) ≡ true → i ≤ n → n ≤ i → true ≡ every P (take n l)
-    every-done l n i h a b = let e : i ≡ n = omega arith in sym (rw (← e) h)
-
   module _ (P : A → Bool) (Q : A → Type 0) where
     pub every-all : ((x : A) → P x ≡ true → Q x) → (l : List A) → every P l ≡ true → All Q l
     unfolding every All
@@ -100,18 +97,3 @@ module _ {A : Type 0} where
     unfolding every All
     all-every f [] h = refl
     all-every f (x ∷ xs) h = true-both (P x) (every P xs) (f x (h .0)) (all-every f xs (h .1))
-
-  -- what is left of a list where a test is made of each element
-  unfoldable pub sift : (A → Bool) → List A → List A
-  sift P [] = []
-  sift P (x ∷ xs) = pick (P x) (x ∷ sift P xs) (sift P xs)
-
-  pub all-sift : (P : A → Bool) (Q : A → Type 0) (l : List A) → All Q l → All Q (sift P l)
-  unfolding All sift
-  all-sift P Q [] h = tt
-  all-sift P Q (x ∷ xs) h = by-test (P x) (λ e. rw e (h .0, all-sift P Q xs (h .1))) (λ e. rw e (all-sift P Q xs (h .1)))
-
-  pub sift-all : (P : A → Bool) (l : List A) → All (λ x. P x ≡ true) (sift P l)
-  unfolding All sift
-  sift-all P [] = tt
-  sift-all P (x ∷ xs) = by-test (P x) (λ e. rw e (e, sift-all P xs)) (λ e. rw e (sift-all P xs))

@@ -4,7 +4,7 @@ use mathlib.Core.Path.{_≡_, refl, ap, ap₂}
 use mathlib.Core.List.{List, [], _∷_, map}
 use Prim.Native.Nat.{ℕ, zero, suc, _<_}
 use native.Mathlib.Omega.{arith}
-use lib.ListN.{getD, length, set}
+use lib.ListN.{getD, length, replicate, set}
 use native.Mathlib.Nat.{le-of-suc-le-suc, not-suc-le-zero}
 
 module _ {A : Type 0} where
@@ -22,6 +22,17 @@ module _ {A : Type 0} where
   getD-listed f zero k d h = absurd (not-suc-le-zero h)
   getD-listed f (suc n) zero d h = refl
   getD-listed f (suc n) (suc k) d h = getD-listed (λ k. f (suc k)) n k d (le-of-suc-le-suc h)
+
+  -- one value n times
+  pub listed-one : (a : A) (n : ℕ) → listed (λ k. a) n ≡ replicate n a
+  unfolding listed
+  listed-one a zero = refl
+  listed-one a (suc n) = ap (λ l. a ∷ l) (listed-one a n)
+
+  pub one-at : (a : A) (n k : ℕ) → getD (replicate n a) k a ≡ a
+  one-at a zero k = refl
+  one-at a (suc n) zero = refl
+  one-at a (suc n) (suc k) = one-at a n k
 
   -- equal functions, equal lists
   pub listed-ext : (f g : ℕ → A) (n : ℕ) → ((k : ℕ) → k < n → f k ≡ g k) → listed f n ≡ listed g n

@@ -1,12 +1,11 @@
 -- Loops that store one element a turn: the list is then pasted over.
-use mathlib.Core.Path.{_≡_, refl, sym, ap, _∙_}
-use mathlib.Core.Logic.{_⊎_, ⊎-elim}
-use mathlib.Core.List.{List, [], _++_}
+use mathlib.Core.Path.{_≡_, sym, ap, _∙_}
+use mathlib.Core.List.{List, _++_}
 use Prim.Native.Nat.{ℕ, zero, suc, _+_, _-_, _≤_, _<_}
 use native.Mathlib.Numerals.{add-one, unary-clauses}
-use native.Mathlib.Nat.{zero-add, zero-sub}
+use native.Mathlib.Nat.{zero-sub}
 use native.Mathlib.Omega.{arith}
-use lib.ListN.{length, take, drop, getD, set, replicate, length-append, length-drop, List·getD-append}
+use lib.ListN.{length, take, drop, getD, set, replicate, length-drop, List·getD-append}
 use lib.Seq.{paste, paste-suc, getD-drop, length-take-le, take-at, drop-at, drop-append-add, drop-drop, take-add, length-paste-head, getD-take, getD-append-add}
 
 module _ {A : Type 0} where
@@ -27,9 +26,6 @@ module _ {A : Type 0} where
       let b : drop (at + n) (x ++ drop at e) ≡ drop (at + n) e = rw (← h) (drop-append-add x (drop (length x) e) n ∙ drop-drop n (length x) e) in
       rw (a, b)
 
-  pub length-end : (x s : List A) (at n : ℕ) → length x ≡ at → n ≤ length s → length (x ++ take n s) ≡ at + n
-  length-end x s at n h k = length-append x (take n s) ∙ rw (h, length-take-le n s k)
-
   pub drop-take : (q c : ℕ) (l : List A) → q ≤ c → c ≤ length l → drop q (take c l) ≡ take (c - q) (drop q l)
   drop-take q c l h k =
       let e : c ≡ q + (c - q) = omega arith in
@@ -41,17 +37,6 @@ module _ {A : Type 0} where
   drop-replicate zero n a = simp unary-clauses
   drop-replicate (suc m) zero a = simp zero-sub
   drop-replicate (suc m) (suc n) a = simp unary-clauses (drop-replicate m n a)
-
-  -- three pastes, one behind the other
-  pub three-pastes : (e r w : List A) (count p k n : ℕ) → p + k ≤ count → count ≤ length r → n ≤ length w
-      → paste (paste (paste e 0 (drop 0 r) p) p w n) (p + n) (drop (p + k) r) (count - (p + k))
-      ≡ (take p r ++ take n w ++ drop (p + k) (take count r)) ++ drop (p + n + (count - (p + k))) e
-  three-pastes e r w count p k n h₁ h₂ h₃ =
-      let l₁ : length (take p r) ≡ p = length-take-le p r (omega arith) in
-      let a : paste e 0 (drop 0 r) p ≡ take p r ++ drop p e = paste-end [] 0 e r p refl ∙ ap (λ (j : ℕ). take p r ++ drop j e) (zero-add p) in
-      let b : paste (take p r ++ drop p e) p w n ≡ (take p r ++ take n w) ++ drop (p + n) e = paste-end (take p r) p e w n l₁ in
-      let d : drop (p + k) (take count r) ≡ take (count - (p + k)) (drop (p + k) r) = drop-take (p + k) count r h₁ h₂ in
-      rw (a, b, d) (paste-end (take p r ++ take n w) (p + n) e (drop (p + k) r) (count - (p + k)) (length-end (take p r) w p n l₁ h₃))
 
 -- The loop that writes one element a turn, whatever it writes: d is the list at entry, s what is to be written from index at, i how many are written.
 module _ {A : Type 0} where
@@ -77,13 +62,3 @@ module _ {A : Type 0} where
       ∙ getD-append-add (take at d ++ take n s) (drop (at + n) d) (k - (at + n)) z
       ∙ getD-drop (at + n) d (k - (at + n)) z
       ∙ ap (λ (j : ℕ). getD d j z) e′
-
-  -- an element outside what was written so far, read by the loop that copies within one list
-  pub within : (d : List A) (at from i n : ℕ) (z : A) (cur : List A) → (at + n ≤ from) ⊎ (from + n ≤ at) → at + n ≤ length d → from + n ≤ length d → i < n
-      → cur ≡ paste d at (drop from d) i → getD cur (from + i) z ≡ getD (drop from d) i z
-  within d at from i n z cur apart ha hf h e =
-      let k : i ≤ length (drop from d) = simp length-drop (omega arith) in
-      ap (λ (l : List A). getD l (from + i) z) e
-      ∙ ⊎-elim (λ (a : at + n ≤ from). paste-above d at (drop from d) i (from + i) z (omega arith) k (omega arith))
-      (λ (b : from + n ≤ at). paste-below d at (drop from d) i (from + i) z (omega arith) k (omega arith)) apart
-      ∙ sym (getD-drop from d i z)

@@ -1,1 +1,1 @@
-// Laws on lists and choices only: see specs/.
+// Choices by a test, and lists. Definitions and laws only: see specs/.

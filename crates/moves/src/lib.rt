@@ -1,1 +1,1 @@
-// BYTES COPIED FROM ONE OBJECT TO ANOTHER, page after page, within the pool.
+// Bytes copied from one object to another, page after page, in a store and a pool inside a call. Definitions and laws only: see specs/.

@@ -4,7 +4,7 @@ use mathlib.Core.Path.{_≡_, ap, sym, _∙_}
 use mathlib.Core.List.{List}
 use Prim.Native.Nat.{ℕ, _*_, _<_}
 use native.Mathlib.Omega.{arith}
-use lib.ListN.{length, getD, replicate}
+use lib.ListN.{length, getD, replicate, length-replicate}
 use Rattle.store.specs.declared.Store.{Store}
 use Rattle.lists.specs.Test.{by-eq}
 use Rattle.book.specs.Cell.{free, holds}
@@ -66,3 +66,7 @@ inside-any s x I y h = record {
   rest-ranges = I .rest-ranges;
   rest-places = I .rest-places;
 }
+
+-- so it is inside a call with a pool of zeros
+pub inside-zeros : (s : Store) (x : List ℕ) → Inside s x → Inside s (zeros s)
+inside-zeros s x I = inside-any s x I (zeros s) (length-replicate {A = ℕ} (s .frames * 4096) 0 ∙ sym (I .pool))

@@ -1,15 +1,14 @@
 -- A PAGE THAT IS PRESENT AND PRIVATE, as `private_frame` finds it: it is written where it is.
-use mathlib.Core.Path.{_≡_, refl, ap, sym, subst, _∙_}
-use mathlib.Core.Bool.{Bool, true, false}
+use mathlib.Core.Path.{_≡_, refl, ap, subst, _∙_}
+use mathlib.Core.Bool.{false}
 use mathlib.Core.List.{List}
-use Prim.Native.Nat.{ℕ, _<_}
+use Prim.Native.Nat.{ℕ}
 use native.Mathlib.Omega.{arith}
 use lib.Dec.{ltb}
 use Rattle.frames.specs.declared.Frame.the-variants.{At, Nothing}
 use Rattle.store.specs.declared.Store.{Store}
 use Rattle.look.specs.declared.PageAt.{PageAt}
 use Rattle.look.specs.declared.PageAt.the-variants as found-at
-use Rattle.look.specs.declared.Located.{Located}
 use Rattle.lists.specs.Test.{by-test}
 use Rattle.ranges.specs.Range.{line}
 use Rattle.ranges.specs.Table.{holders}

@@ -6,7 +6,7 @@ use mathlib.Core.List.{List, List·Memᴰ, headD}
 use Prim.Native.Nat.{ℕ, _*_, _≤_, _<_}
 use native.Mathlib.Nat.{le-refl}
 use native.Mathlib.Omega.{arith}
-use lib.ListN.{length, getD, set, length-set}
+use lib.ListN.{length, getD, length-set}
 use lib.Seq.{getD-set-same}
 use Rattle.frames.specs.declared.Frame.the-variants.{At}
 use Rattle.table.specs.declared.PageRange.{PageRange}
@@ -17,7 +17,7 @@ use Rattle.store.specs.declared.Store.{Store}
 use Rattle.pages.specs.declared.Spot.{Spot}
 use Rattle.lists.specs.Test.{by-eq}
 use Rattle.lists.specs.Every.{All}
-use Rattle.ranges.specs.Range.{Range, line, from, upto, put, slotAt}
+use Rattle.ranges.specs.Range.{line, from, upto, put, slotAt}
 use Rattle.ranges.specs.Table.{holders}
 use Rattle.ranges.specs.Over.{put-hit}
 use Rattle.book.specs.Cell.{free}
@@ -190,9 +190,3 @@ module _ (s : Store) (x : List ℕ) (I : Inside s x) (f : ℕ) (hf : highestBelo
           ∙ put-hit (rangeOf n) (line o p) (rangesOf (used s)) (L .low) (L .high)
           ∙ ap₂ (λ c i. some (slot c i)) (sym (ap (λ k. k .backing) placed-at)) (sym (ap (λ k. k .index) placed-at ∙ L .index));
     }
-
--- the places trimmed, vacated and placed one after the other
-pub places-settled : (n f b k i : ℕ) (rs : List Range) (ps us vs qs : List Place) → us ≡ trimmed n rs ps → vs ≡ vacated n k i us → qs ≡ set vs f (place k i) → k ≡ b
-    → qs ≡ settled n rs f b i ps
-places-settled n f b k i rs ps us vs qs e g h z =
-    h ∙ ap (λ v. set v f (place k i)) (g ∙ ap (vacated n k i) e) ∙ ap (λ c. settled n rs f c i ps) z

@@ -15,7 +15,7 @@ use Rattle.ranges.specs.Range.{Range, Slot, from, upto, put, slotIn, slotAt, Ri
 use Rattle.ranges.specs.Table.{named}
 use Rattle.ranges.specs.Find.{In, named-in, named-mem, slot-mem, slot-named}
 use Rattle.ranges.specs.Over.{Rest, put-hit, put-mem, put-other}
-use Rattle.trim.specs.Trim.{keptPlace}
+use Rattle.store.specs.Trim.{keptPlace}
 use Rattle.places.specs.Places.{nowhere, placeAt, standsAt, emptiedAt}
 use Rattle.store.specs.Edits.{slot, trimmed, vacated, mapped-at, stands-place, Only}
 use Rattle.store.specs.Idle.{mapped-beyond}

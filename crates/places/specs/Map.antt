@@ -8,8 +8,9 @@ use native.Mathlib.Numerals.{add-one}
 use borrow.Author.Tests.{eq-eqb, le-ltb, lt-ltb, ne-eqb}
 use lib.Bits.{bitOr}
 use lib.Dec.{eqb, ltb}
-use lib.ListN.{List·getD-eq-default, getD, getD-replicate, length, length-set, replicate, set, take}
+use lib.ListN.{getD, length, length-set, replicate, set, take}
 use lib.Seq.{length-take-le, take-suc}
+use Rattle.lists.specs.Listed.{one-at}
 use Rattle.lists.specs.Test.{by-eq, by-lt, by-test, pick}
 use Rattle.frames.specs.Free.{isFree, marked, spareOf}
 use Rattle.frames.specs.Bits.{marked-other, marked-same, one-shifted, zero-bit}
@@ -33,18 +34,12 @@ pub record Built (n : ℕ) (ps : List Place) (f : ℕ) (d : List ℕ) : Type 0 w
   pub long : length d ≡ 16
   pub bits : (g : ℕ) → isFree d g ≡ (ltb g f && vacant n ps g)
 
-no-word : (k : ℕ) → _≡_ {A = ℕ} (getD (replicate 16 0) k 0) 0
-no-word k =
-    by-lt k 16
-    (λ h. getD-replicate 16 k 0 0 h)
-    (λ h. List·getD-eq-default (replicate 16 0) 0 h)
-
 module _ (n : ℕ) (ps : List Place) where
   pub built-none : Built n ps 0 (replicate 16 0)
   built-none =
       record {
         long = refl;
-        bits = λ g. ap (λ w. eqb w 1) (zero-bit (replicate 16 0) g (no-word (g / 64))) ∙ rw (le-ltb g 0 (omega arith));
+        bits = λ g. ap (λ w. eqb w 1) (zero-bit (replicate 16 0) g (one-at {A = ℕ} 0 16 (g / 64))) ∙ rw (le-ltb g 0 (omega arith));
       }
 
   -- a frame more is looked at: the others as before

@@ -5,7 +5,7 @@ use mathlib.Core.List.{List, [], _∷_, _++_, List·Memᴰ, List·Memᴰ·head, 
 use Prim.Native.Nat.{ℕ, _+_, _≤_, _<_}
 use native.Mathlib.Omega.{arith}
 use Rattle.lists.specs.Test.{by-lt}
-use Rattle.ranges.specs.Range.{Range, Ranged, from, upto, front, back, carve, insert, Rising, Clear}
+use Rattle.ranges.specs.Range.{Ranged, from, upto, front, back, carve, insert, Rising, Clear}
 use Rattle.ranges.specs.Cut.{front-some, front-none, back-some, back-none}
 use Rattle.ranges.specs.Put.{insert-here, insert-later}
 

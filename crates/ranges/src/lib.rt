@@ -1,1 +1,1 @@
-// Definitions and laws only: see specs/.
+// Ranges of pages, cuts, tables of ranges. Definitions and laws only: see specs/.

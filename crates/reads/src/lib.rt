@@ -1,1 +1,1 @@
-// Bytes of an object, read page by page.
+// Bytes of an object, read page by page. Definitions and laws only: see specs/.

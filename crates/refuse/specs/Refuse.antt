@@ -58,15 +58,6 @@ unfolding All
 follows [] qs k h r = r
 follows (t ∷ rs) qs k h r = passes (h .0) (follows rs qs k (h .1) r)
 
--- where row 1 does not apply the store is sound
-pub passed-sound : (s : Store) (rs : Table) → 0 ≡ lowest ((not (sound? s), 1) ∷ rs) → sound? s ≡ true
-unfolding lowest
-passed-sound s rs e = go (sound? s) e
-  where
-    go : (a : Bool) → 0 ≡ lowest ((not a, 1) ∷ rs) → a ≡ true
-    go true h = refl
-    go false h = absurd (omega arith)
-
 -- two rows of one number are one row
 either : (a b : Bool) (x y : ℕ) → pick a x (pick b x y) ≡ pick (a || b) x y
 either true b x y = refl

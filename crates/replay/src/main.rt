@@ -168,9 +168,12 @@ fn range_pages(
     a
 }
 
-// The first slot whose range holds backing b.
-fn first_holder(ranges: [PageRange; 512], b: u32) -> usize {
-    let mut k: usize = 0;
+// The first slot from this one on whose range holds backing b, or 512.
+fn holder_from(ranges: [PageRange; 512], from: usize, b: u32) -> usize
+    requires { ⌜ from ≤ 513 ⌝ }
+    ensures { λ r. ⌜ r ≤ 512 ⌝ }
+{
+    let mut k: usize = from;
     while k < 512 {
         let r = ranges[k];
         let c = r.backing;
@@ -179,17 +182,18 @@ fn first_holder(ranges: [PageRange; 512], b: u32) -> usize {
         }
         k += 1;
     }
-    k
+    512
 }
 
 fn letter(ranges: [PageRange; 512], count: usize, b: u32) -> u8 {
     if 512 < count {
         return b'?';
     }
-    if table::holder_count(ranges, count, b) < 2 {
-        return b'p';
+    let first = holder_from(ranges, 0, b);
+    if holder_from(ranges, first + 1, b) < count {
+        return b's';
     }
-    b's'
+    b'p'
 }
 
 fn letter_line(out: &mut [u8], at: usize, b: u8) -> usize {
@@ -214,7 +218,7 @@ fn range_line(
         b,
         r.offset as u64,
         5,
-        first_holder(ranges, n) as u64,
+        holder_from(ranges, 0, n) as u64,
         3,
     );
     letter_line(out, c, letter(ranges, count, n))

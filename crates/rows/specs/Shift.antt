@@ -8,6 +8,7 @@ use lib.ListN.{length, getD, set, take, drop, replicate, length-append, length-d
 use lib.Seq.{append-snoc, set-split, paste, paste-zero, length-paste, length-paste-head, length-take-le, getD-take, getD-drop, getD-append-add, ext-getD, take-suc-set, take-set-lt, set-append-left, drop-cons, take-length, take-at, drop-at}
 use Rattle.lists.specs.Test.{by-lt}
 use Rattle.lists.specs.Every.{All}
+use Rattle.lists.specs.Listed.{one-at}
 use Rattle.lists.specs.Paste.{paste-next, paste-below, paste-above}
 use Rattle.lists.specs.Part.{paste-more, paste-same}
 use Rattle.table.specs.declared.PageRange.{PageRange}
@@ -172,13 +173,8 @@ padded-at l j =
     let e : j ≡ length l + (j - length l) = omega arith in
     ap (λ k. getD (l ++ replicate (512 - length l) zeroRange) k zeroRange) e
     ∙ getD-append-add l (replicate (512 - length l) zeroRange) (j - length l) zeroRange
-    ∙ zeros (512 - length l) (j - length l)
+    ∙ one-at zeroRange (512 - length l) (j - length l)
     ∙ sym (List·getD-eq-default l zeroRange h))
-  where
-    zeros : (n i : ℕ) → getD (replicate n zeroRange) i zeroRange ≡ zeroRange
-    zeros zero i = refl
-    zeros (suc n) zero = refl
-    zeros (suc n) (suc i) = zeros n i
 
 module _ (R Q new : List PageRange) (count p q : ℕ) (full : length R ≡ 512) (few : count ≤ 512) (pq : p ≤ q) (qc : q ≤ count)
     (room : count + length new ≤ 512 + (q - p)) (O : Opened R count q (p + length new) Q) where

@@ -1,15 +1,13 @@
 -- What leaves with a page step, in the order in which the code finds it.
-use mathlib.Core.Path.{_≡_, refl, ap, sym, _∙_}
-use mathlib.Core.Bool.{Bool, true, false, not, _&&_}
+use mathlib.Core.Path.{_≡_, ap, sym, _∙_}
+use mathlib.Core.Bool.{true, false, _&&_}
 use mathlib.Core.Option.{Option, none, some}
-use mathlib.Core.Logic.{_⊎_, inl, inr}
 use mathlib.Core.List.{List}
 use Prim.Native.Nat.{ℕ, _+_, _-_, _*_, _/_, _%_, _≤_, _<_, _^_}
 use native.Mathlib.Omega.{arith}
 use lib.Dec.{eqb}
 use lib.Bits.{bitAnd}
 use lib.ListN.{List·getD-eq-default, getD, length, length-take, set, take}
-use borrow.Author.Tests.{eqb-true}
 use Rattle.frames.specs.Free.{TakenOut}
 use Rattle.frames.specs.declared.Frame.{Frame}
 use Rattle.frames.specs.declared.Frame.the-variants.{At, Nothing}
@@ -58,9 +56,6 @@ pub record Taken (s : Store) (f : ℕ) (t : Store) : Type 0 where
 
 -- ---- a frame released, as the code finds it
 module _ (s : Store) (p : Place) where
-  abbrev found : Frame
-  found = frameAt (p .backing) (p .index) 0 (take (s .frames) (s .places))
-
   pub found-below : (k : ℕ) → frameAt (p .backing) (p .index) 0 (take (s .frames) (s .places)) ≡ At k → k < s .frames
   found-below k e =
       let F = frame-found (p .backing) (p .index) 0 (take (s .frames) (s .places)) k e in

@@ -1,6 +1,6 @@
 -- THE PAGE STEP of code is the definition's: what leaves with the page is what trimming and vacating take away.
 use mathlib.Core.Path.{_≡_, refl, ap, sym, subst, _∙_}
-use mathlib.Core.Bool.{Bool, true, false, _&&_, false≢true}
+use mathlib.Core.Bool.{Bool, false, _&&_, false≢true}
 use mathlib.Core.Logic.{_⊎_, inl, inr}
 use mathlib.Core.List.{List}
 use Prim.Native.Nat.{ℕ, _+_, _≤_, _<_}
@@ -36,9 +36,6 @@ use Rattle.settle.specs.Depart.{departed, goneAt, oldSlot, Taken}
 
 -- what departs from a store with another table is what leaves
 module _ (s : Store) (u : RangeTable) (g b i : ℕ) where
-  abbrev new : Store
-  new = withTable u s
-
   abbrev names : ℕ → ℕ → Bool
   names c j = named c j (rangesOf (take (u .count) (u .ranges)))
 

@@ -59,7 +59,7 @@ pub fn old_place(sheet: &[u64; 2579], g: usize) -> OldPlace
 }
 
 // The frame at a place, if there is one, stands nowhere.
-fn release(sheet: &mut [u64; 2579], p: Place)
+pub fn release(sheet: &mut [u64; 2579], p: Place)
     requires { ⌜ (length (now sheet) ≡ 2579) × (storeOf (now sheet) .frames ≤ 1024) ⌝ }
     ensures { λ _. ⌜ (storeOf (now (sheet .exit)) ≡ withPlaces (goneAt (storeOf (now (sheet .entry))) p) (storeOf (now (sheet .entry)))) × (length (now (sheet .exit)) ≡ 2579) ⌝ }
 {
@@ -114,7 +114,7 @@ fn words_fit(sheet: &[u64; 2579])
 }
 
 // Frame f taken out of the free map.
-fn take_frame(sheet: &mut [u64; 2579], f: usize)
+pub fn take_frame(sheet: &mut [u64; 2579], f: usize)
     requires { ⌜ (length (now sheet) ≡ 2579) × (f < 1024) ⌝ }
     ensures { λ _. ⌜ Taken (storeOf (now (sheet .entry))) f (storeOf (now (sheet .exit))) × (length (now (sheet .exit)) ≡ 2579) ⌝ }
 {

@@ -23,7 +23,7 @@ use Rattle.table.specs.Table.{rangesOf, zeroRange}
 use Rattle.frames.specs.Free.{spareOf}
 use Rattle.places.specs.Places.{placeAt}
 use Rattle.pool.specs.Bytes.{frameAt}
-use Rattle.trim.specs.Trim.{keptPlace}
+use Rattle.store.specs.Trim.{keptPlace}
 use Rattle.store.specs.Abs.{used, cellsOf, tableOf}
 use Rattle.store.specs.Sound.{Kind}
 use Rattle.store.specs.Edits.{slot, trimmed, mapped-at, trim-places}

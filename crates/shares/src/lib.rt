@@ -1,4 +1,5 @@
 // WHOLE PAGES, shared with a source or left uncovered, in a store inside a call: only the table of ranges changes, and no byte.
+// One function; else definitions and laws only: see specs/.
 use page::PageNumber;
 use table::PageRange;
 use table::Piece;

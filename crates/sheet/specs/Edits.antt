@@ -4,18 +4,15 @@ use mathlib.Core.List.{List}
 use Prim.Native.Nat.{ℕ, _+_, _*_, _/_, _%_, _≤_, _<_}
 use native.Mathlib.Nat.{mod-eq-of-lt}
 use native.Mathlib.Omega.{arith}
-use lib.Dec.{eqb}
 use lib.ListN.{getD, length, set, length-set}
 use lib.Seq.{getD-set-other, getD-set-same}
-use borrow.Author.Tests.{eq-eqb, ne-eqb}
 use Rattle.table.specs.declared.PageRange.{PageRange}
 use Rattle.table.specs.declared.BackingPages.{BackingPages}
 use Rattle.table.specs.declared.BackingPages.the-variants.{Nothing, Single, Many}
 use Rattle.places.specs.declared.Place.{Place}
-use Rattle.store.specs.declared.Store.{Store}
-use Rattle.lists.specs.Listed.{listed, getD-listed, length-listed, listed-ext, listed-set}
+use Rattle.lists.specs.Listed.{getD-listed, length-listed, listed-ext, listed-set}
 use Rattle.table.specs.Table.{zeroRange, numberOf}
-use Rattle.places.specs.Places.{nowhere, place, placeAt}
+use Rattle.places.specs.Places.{nowhere, placeAt}
 use Rattle.store.specs.Sound.{Sized}
 use Rattle.sheet.specs.Sheet.{backingOf, lineOf, rangeAt, rangeMade, spotted, storeOf, tagOf, withCount, withFrames, withLive, withPlace, withRange, withWord, wordAt}
 

@@ -1,3 +1,4 @@
 pub mod Sheet
 pub mod Edits
 pub mod Load
+pub mod Zero

@@ -8,12 +8,11 @@ use lib.ListN.{getD, length, length-set, set}
 use lib.Seq.{ext-getD, getD-set-other, getD-set-same}
 use Rattle.table.specs.declared.PageRange.{PageRange}
 use Rattle.places.specs.declared.Place.{Place}
-use Rattle.store.specs.declared.Store.{Store}
 use Rattle.lists.specs.Test.{by-eq}
 use Rattle.lists.specs.Listed.{listed, getD-listed, length-listed, listed-ext}
 use Rattle.table.specs.Table.{zeroRange}
 use Rattle.places.specs.Places.{nowhere, placeAt}
-use Rattle.sheet.specs.Sheet.{lineOf, rangeMade, rowSet, spanNumber, spotNumber, spotted, storeOf, tagOf, withFree, withPlaces, wordAt}
+use Rattle.sheet.specs.Sheet.{lineOf, rowSet, spanNumber, spotNumber, spotted, storeOf, tagOf, withFree, withPlaces}
 use Rattle.sheet.specs.Edits.{Narrow, count-kept, frames-kept, free-kept, live-kept, places-kept, range-made, ranges-kept}
 
 -- a list is tabulated from its elements

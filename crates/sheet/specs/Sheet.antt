@@ -1,5 +1,4 @@
 -- THE STORE THAT A SHEET STANDS FOR, and the edits of a store that an edit of a sheet is.
-use mathlib.Core.Path.{_≡_}
 use mathlib.Core.List.{List}
 use Prim.Native.Nat.{ℕ, _+_, _*_, _/_, _%_}
 use lib.Dec.{eqb}

@@ -133,10 +133,9 @@ fn spot_of(sheet: &[u64; 2579], object: u32, page: PageNumber) -> Spot
     spot_in(sheet, object, page, r)
 }
 
-// The frame taken next: "The frame handed out is the highest-numbered free one".
-fn next_frame(sheet: &[u64; 2579]) -> usize
-    requires { ⌜ 0 < length (spareOf (storeOf (now sheet) .free) 1024) ⌝ }
-    ensures { λ f. ⌜ highestBelow (storeOf (now (sheet .entry)) .free) 1024 ≡ At f ⌝ }
+// The frame taken next, if one is free: "The frame handed out is the highest-numbered free one".
+pub fn next_frame(sheet: &[u64; 2579]) -> usize
+    ensures { λ f. ⌜ (0 < length (spareOf (storeOf (now (sheet .entry)) .free) 1024) → highestBelow (storeOf (now (sheet .entry)) .free) 1024 ≡ At f) ⌝ }
 {
     let mut i: usize = 16;
     while 0 < i {

@@ -16,7 +16,7 @@ use Rattle.ranges.specs.Range.{Range, Slot}
 use Rattle.ranges.specs.Table.{named}
 use Rattle.book.specs.Page.{over}
 use Rattle.book.specs.Cell.{Cell, free, holds, kept, trim, emptied, vacate, changed, edit}
-use Rattle.trim.specs.Trim.{keptPlace}
+use Rattle.store.specs.Trim.{keptPlace}
 use Rattle.places.specs.Places.{place, nowhere, placeAt, standsAt, emptiedAt}
 use Rattle.pool.specs.Bytes.{frameAt}
 use Rattle.pool.specs.Frames.{paste-frame, paste-other}
@@ -108,7 +108,7 @@ map-places size n ps x h k m e =
     change-all size n ps x (map h (take n ps) ++ drop n ps) x k
     (λ f l. ap (λ q. cellOf q (frameAt size x f)) (mapped-at h n ps f m l) ∙ e (placeAt ps f) (frameAt size x f))
 
--- what `places::vacated` makes: what stood at index i of backing b is free
+-- the slot vacated: what stood at index i of backing b is free
 abbrev pub vacated : ℕ → ℕ → ℕ → List Place → List Place
 vacated n b i ps = map (emptiedAt b i) (take n ps) ++ drop n ps
 

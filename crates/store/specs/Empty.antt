@@ -1,8 +1,8 @@
 -- A store with no live name, no range and no frame in use: its book is the empty one, and it is sound.
-use mathlib.Core.Path.{_≡_, refl, ap, sym, subst, _∙_}
+use mathlib.Core.Path.{_≡_, ap, sym, subst, _∙_}
 use mathlib.Core.Bool.{false}
-use mathlib.Core.List.{List, [], _∷_}
-use Prim.Native.Nat.{ℕ, zero, suc, _%_, _^_, _≤_}
+use mathlib.Core.List.{List, []}
+use Prim.Native.Nat.{ℕ, _%_, _^_, _≤_}
 use native.Mathlib.Nat.{zero-div}
 use native.Mathlib.Omega.{arith}
 use lib.Dec.{eqb}
@@ -10,7 +10,7 @@ use lib.ListN.{length, take, drop, replicate}
 use Rattle.table.specs.declared.PageRange.{PageRange}
 use Rattle.places.specs.declared.Place.{Place}
 use Rattle.store.specs.declared.Store.{Store}
-use Rattle.lists.specs.Listed.{listed, listed-ext}
+use Rattle.lists.specs.Listed.{listed-ext, listed-one}
 use Rattle.lists.specs.Every.{All}
 use Rattle.ranges.specs.Range.{Rising}
 use Rattle.book.specs.Cell.{free}
@@ -21,11 +21,6 @@ use Rattle.pool.specs.Bytes.{frameAt}
 use Rattle.store.specs.Abs.{used, cellOf, cellsOf, bookOf, liveBit, liveOf}
 use Rattle.store.specs.Sound.{Fine, Agree, Sound}
 use Rattle.store.specs.Edits.{cell-free}
-
-listed-one : {A : Type 0} (a : A) (n : ℕ) → listed (λ k. a) n ≡ replicate n a
-unfolding listed
-listed-one a zero = refl
-listed-one a (suc n) = ap (λ l. a ∷ l) (listed-one a n)
 
 -- no name is live
 pub live-none : liveOf 0 ≡ replicate 32 false

@@ -11,7 +11,7 @@ use Rattle.lists.specs.Test.{by-eq, by-lt, by-test}
 use Rattle.ranges.specs.Range.{Range}
 use Rattle.ranges.specs.Table.{named}
 use Rattle.places.specs.Places.{place, nowhere, placeAt, standsAt, emptiedAt}
-use Rattle.trim.specs.Trim.{keptPlace}
+use Rattle.store.specs.Trim.{keptPlace}
 use Rattle.store.specs.Edits.{trimmed, vacated, mapped-at}
 
 -- "unused slots are zero": of n frames, those that are free, and those beyond, stand nowhere (the store's `rest-places`)

@@ -17,3 +17,4 @@ pub mod Sound
 pub mod Spare
 pub mod Stands
 pub mod Tabled
+pub mod Trim

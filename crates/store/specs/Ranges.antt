@@ -18,7 +18,7 @@ pub padded-used : (l : List PageRange) (c : ℕ) → length l ≡ c → take c (
 unfolding padded
 padded-used l c e = take-at l (replicate (512 - length l) zeroRange) c e
 
-zeros-all : (k : ℕ) → All (λ r. r ≡ zeroRange) (replicate k zeroRange)
+pub zeros-all : (k : ℕ) → All (λ r. r ≡ zeroRange) (replicate k zeroRange)
 unfolding All
 zeros-all zero = tt
 zeros-all (suc k) = (refl, zeros-all k)

@@ -19,7 +19,7 @@ use Rattle.places.specs.Places.{place, placeAt, standsAt, emptiedAt}
 use Rattle.pool.specs.Bytes.{frameAt}
 use Rattle.table.specs.Table.{rangesOf}
 use Rattle.store.specs.Abs.{used, cellsOf}
-use Rattle.trim.specs.Trim.{keptPlace}
+use Rattle.store.specs.Trim.{keptPlace}
 use Rattle.store.specs.Edits.{slot, trimmed, vacated, mapped-at, settle-frame, trim-places, vacate-places}
 use Rattle.store.specs.Stands.{Stay, stands-trimmed, stands-vacated, stands-beside, stands-placed}
 use Rattle.store.specs.Spare.{workOf}

@@ -18,7 +18,7 @@ use Rattle.table.specs.Table.{numberOf, rangeOf, rangesOf}
 use Rattle.places.specs.Places.{place, nowhere, placeAt, standsAt, emptiedAt}
 use Rattle.store.specs.Sound.{Stands, Kind}
 use Rattle.store.specs.Members.{range-mem}
-use Rattle.trim.specs.Trim.{keptPlace}
+use Rattle.store.specs.Trim.{keptPlace}
 use Rattle.store.specs.Edits.{trimmed, vacated, mapped-at, stands-place}
 
 -- a frame whose place is as it was

@@ -1,3 +1,4 @@
+// The store's type. Definitions and laws of it: see specs/.
 use places::Place;
 use table::PageRange;
 

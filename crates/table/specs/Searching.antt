@@ -1,14 +1,14 @@
 -- The searches in the table, from what their loops know.
-use mathlib.Core.Path.{_≡_, refl, ap, sym, _∙_}
-use mathlib.Core.List.{List, [], _∷_, map}
-use Prim.Native.Nat.{ℕ, zero, suc, _+_, _-_, _≤_, _<_}
+use mathlib.Core.Path.{_≡_, ap, sym, _∙_}
+use mathlib.Core.List.{List}
+use Prim.Native.Nat.{ℕ, suc, _+_, _-_, _≤_, _<_}
 use native.Mathlib.Omega.{arith}
 use lib.ListN.{length, getD, take, length-map, List·getD-map}
 use lib.Seq.{length-take-le, getD-take}
 use lib.Dec.{eqb, ltb}
 use Rattle.lists.specs.Test.{pick, by-eq, by-lt}
 use Rattle.ranges.specs.Range.{Ranged, from, upto}
-use Rattle.ranges.specs.Search.{startsBefore, endsBy, starts-few, starts-is, starts-in, rising-next, rising-full, ends-none, ends-cut, ends-whole}
+use Rattle.ranges.specs.Search.{startsBefore, endsBy, starts-few, starts-is, rising-next, rising-full, ends-none, ends-cut, ends-whole}
 use Rattle.table.specs.declared.PageRange.{PageRange}
 use Rattle.table.specs.declared.BackingPages.{BackingPages}
 use Rattle.table.specs.declared.Begun.{Begun}

@@ -1,14 +1,12 @@
 -- The store's table of ranges, as a table of the book.
 use mathlib.Core.Path.{_≡_}
-use mathlib.Core.Bool.{Bool, true, false}
-use mathlib.Core.List.{List, [], _∷_, _++_, map}
-use Prim.Native.Nat.{ℕ, zero, suc, _+_, _-_, _≤_, _<_}
-use lib.ListN.{length, take, drop, replicate, getD}
+use mathlib.Core.List.{List, [], _∷_, map}
+use Prim.Native.Nat.{ℕ, zero, suc, _+_, _≤_, _<_}
+use lib.ListN.{length, take, getD}
 use Rattle.lists.specs.Test.{pick}
-use Rattle.ranges.specs.Range.{Range, Ranged, from, upto, front, back, covers, carve, put, Rising}
+use Rattle.ranges.specs.Range.{Range, Ranged, upto, front, back, Rising}
 use Rattle.ranges.specs.Search.{startsBefore}
 use Rattle.ranges.specs.Reback.{reback}
-use Rattle.page.specs.declared.PageNumber.{PageNumber}
 use Rattle.table.specs.declared.PageRange.{PageRange}
 use Rattle.table.specs.declared.BackingPages.{BackingPages}
 use Rattle.table.specs.declared.Piece.{Piece}

@@ -1,13 +1,11 @@
 use page::PageNumber;
 ghost use mathlib.Core.Path.{_≡_};
-ghost use mathlib.Core.List.{_++_, _∷_, [], map};
-ghost use Prim.Native.Nat.{ℕ, _+_, _-_, _*_, _≤_, _<_, suc};
-ghost use lib.ListN.{take};
-ghost use Rattle.ranges.specs.Range.{line, from, upto, skip, front, back, covers, splitAt};
-ghost use Rattle.ranges.specs.Search.{startsBefore, endsBy};
-ghost use Rattle.ranges.specs.Table.{holders, fresh, window, named};
-ghost use Rattle.table.specs.Searching.{BegunIs, reachOf};
-ghost use Rattle.table.specs.Table.{numberOf, ranged, rangeOf, rangesOf, rangedOf, zeroRange, Small, Table, partsOf, Cut, coveringAt};
+ghost use mathlib.Core.List.{_++_, _∷_, []};
+ghost use Prim.Native.Nat.{_≤_, _<_};
+ghost use Rattle.ranges.specs.Range.{line, from, upto, skip, front, back, splitAt};
+ghost use Rattle.ranges.specs.Table.{window};
+ghost use Rattle.table.specs.Searching.{reachOf};
+ghost use Rattle.table.specs.Table.{numberOf, ranged, rangeOf, zeroRange, Small, partsOf, Cut};
 
 // What keeps the pages of a range, with the backing's number. "Between two calls `Nothing` stands only in unused slots."
 pub enum BackingPages {
@@ -203,59 +201,6 @@ pub struct Begun {
     pub last: PageRange,
 }
 
-// Those that begin before page g of the line, by halving.
-pub fn begin_before(ranges: [PageRange; 512], count: usize, g: usize) -> Begun
-    requires { ⌜ Table ranges count ⌝ }
-    ensures { λ b. ⌜ BegunIs ranges count g b ⌝ }
-{
-    let mut lo: usize = 0;
-    let mut hi: usize = count;
-    while lo < hi {
-        let mid = lo + (hi - lo) / 2;
-        let r = ranges[mid];
-        let s = r.first();
-        if s < g {
-            lo = mid + 1;
-            continue;
-        }
-        hi = mid;
-    }
-    if lo == 0 {
-        return Begun {
-            count: 0,
-            last: zero_range(),
-        };
-    }
-    let last = ranges[lo - 1];
-    Begun { count: lo, last }
-}
-
-// How many ranges of the table begin before page g of the line.
-pub fn starts_before(ranges: [PageRange; 512], count: usize, g: usize) -> usize
-    requires { ⌜ Table ranges count ⌝ }
-    ensures { λ r. ⌜ r ≡ startsBefore g (rangedOf (take count ranges)) ⌝ }
-{
-    let b = begin_before(ranges, count, g);
-    b.count
-}
-
-// How many of the table's first ranges end by page a of the line.
-pub fn ends_by(ranges: [PageRange; 512], count: usize, a: usize) -> usize
-    requires { ⌜ Table ranges count ⌝ }
-    ensures { λ r. ⌜ r ≡ endsBy a (rangedOf (take count ranges)) ⌝ }
-{
-    let b = begin_before(ranges, count, a);
-    if b.count == 0 {
-        return 0;
-    }
-    let r = b.last;
-    let e = r.end();
-    if a < e {
-        return b.count - 1;
-    }
-    b.count
-}
-
 // Of the ranges that begin by page g of the line, the place of the one that covers it.
 pub fn reaching(b: Begun, g: usize) -> Found
     requires { ⌜ (0 < b .count → Small (b .last)) ⌝ }
@@ -272,54 +217,6 @@ pub fn reaching(b: Begun, g: usize) -> Found
     Found::Missing
 }
 
-// The place of the range that covers page g of the line.
-pub fn covering(ranges: [PageRange; 512], count: usize, g: usize) -> Found
-    requires { ⌜ (Table ranges count) × (g < 1000000000000000000) ⌝ }
-    ensures { λ r. ⌜ r ≡ coveringAt g (rangedOf (take count ranges)) ⌝ }
-{
-    let b = begin_before(ranges, count, g + 1);
-    reaching(b, g)
-}
-
-// How many ranges of the table hold a backing.
-pub fn holder_count(ranges: [PageRange; 512], count: usize, b: u32) -> usize
-    requires { ⌜ count ≤ 512 ⌝ }
-    ensures { λ r. ⌜ r ≡ holders b (rangesOf (take count ranges)) ⌝ }
-{
-    let mut n: usize = 0;
-    let mut i: usize = 0;
-    while i < count {
-        let r = ranges[i];
-        let k = r.backing;
-        let m = number(k);
-        if b == m {
-            n += 1;
-            i += 1;
-            continue;
-        }
-        i += 1;
-    }
-    n
-}
-
-// The smallest positive number that no range of the table holds.
-pub fn fresh_number(ranges: [PageRange; 512], count: usize) -> u32
-    requires { ⌜ count ≤ 512 ⌝ }
-    ensures { λ r. ⌜ r ≡ fresh (rangesOf (take count ranges)) ⌝ }
-{
-    let mut n: u32 = 1;
-    let mut k: usize = count;
-    while 0 < k {
-        let h = holder_count(ranges, count, n);
-        if h == 0 {
-            return n;
-        }
-        n += 1;
-        k -= 1;
-    }
-    n
-}
-
 // Whether index i of backing b lies in the window of a range.
 pub fn in_window(r: PageRange, b: u32, i: u32) -> bool
     ensures { λ q. ⌜ q ≡ window b i (rangeOf r) ⌝ }
@@ -327,20 +224,4 @@ pub fn in_window(r: PageRange, b: u32, i: u32) -> bool
     let k = r.backing;
     let m = number(k);
     (b == m) & ((r.offset <= i) & ((i as usize) < (r.offset as usize) + (r.length as usize)))
-}
-
-// Whether it lies in the window of some range of the table.
-pub fn has_window(ranges: [PageRange; 512], count: usize, b: u32, i: u32) -> bool
-    requires { ⌜ count ≤ 512 ⌝ }
-    ensures { λ q. ⌜ q ≡ named b i (rangesOf (take count ranges)) ⌝ }
-{
-    let mut k: usize = 0;
-    while k < count {
-        let r = ranges[k];
-        if in_window(r, b, i) {
-            return true;
-        }
-        k += 1;
-    }
-    false
 }

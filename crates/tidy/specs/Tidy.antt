@@ -1,10 +1,10 @@
 -- Trimming and vacating on a sheet: what the columns of its ranges tell, and one turn of each loop over its frames.
 use mathlib.Core.Path.{_≡_, refl, sym, ap, ap₂, _∙_}
-use mathlib.Core.Bool.{Bool, true, false, not}
+use mathlib.Core.Bool.{not}
 use mathlib.Core.List.{List}
 use Prim.Native.Nat.{ℕ, _+_, _*_, _/_, _%_, _≤_, _<_}
 use native.Mathlib.Omega.{arith}
-use lib.ListN.{drop, length, length-drop, getD, set, take}
+use lib.ListN.{drop, length, length-drop, getD, take}
 use lib.Seq.{length-take-le, set-getD, take-all}
 use Rattle.places.specs.declared.Place.{Place}
 use Rattle.store.specs.declared.Store.{Store}
@@ -14,8 +14,8 @@ use Rattle.lists.specs.Mapped.{mapped, mapped-none, mapped-rest, mapped-turn}
 use Rattle.ranges.specs.Range.{Range}
 use Rattle.ranges.specs.Table.{named}
 use Rattle.table.specs.Table.{rangesOf}
-use Rattle.places.specs.Places.{nowhere, placeAt, emptiedAt, standsAt}
-use Rattle.trim.specs.Trim.{keptPlace}
+use Rattle.places.specs.Places.{nowhere, placeAt}
+use Rattle.store.specs.Trim.{keptPlace}
 use Rattle.chains.specs.Chains.{Chained}
 use Rattle.columns.specs.Ranges.{Spans, Tags}
 use Rattle.store.specs.Abs.{used}
@@ -98,10 +98,3 @@ module _ (S : Store) (full : length (S .ranges) ≡ 512) (n : ℕ) (ts xs l : Li
   -- a window is met: it stays
   pub met-some : (r ≡ 0 → ⊥) → keptPlace (rangesOf (used S)) p ≡ p
   met-some z = rw (told, M .some (omega arith))
-
--- ---- the place that vacating keeps
-pub stands-goes : (b i : ℕ) (p : Place) (t : Bool) → t ≡ standsAt b i p → t ≡ true → nowhere ≡ emptiedAt b i p
-stands-goes b i p t e h = rw (sym e ∙ h)
-
-pub stands-stays : (b i : ℕ) (p : Place) (t : Bool) → t ≡ standsAt b i p → t ≡ false → emptiedAt b i p ≡ p
-stands-stays b i p t e h = rw (sym e ∙ h)

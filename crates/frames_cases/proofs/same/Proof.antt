@@ -5,25 +5,16 @@ use Rattle.frames_cases.proofs.same.Statement.{statement}
 use Rattle.frames_cases.proofs.same.Tie as tie
 
 abbrev Inv-loop : tie.InvT-loop
-Inv-loop v i w a right₀ k₀ right k = k ≤ 16
+Inv-loop sheet v i w right₀ k₀ right k = k ≤ 16
 
 abbrev μ-loop : tie.MeasureT-loop
-μ-loop v i w a right₀ k₀ right k = 16 - k
+μ-loop sheet v i w right₀ k₀ right k = 16 - k
 
 loop-holds : tie.Need-loop-holds Inv-loop μ-loop
 loop-holds c = search needs
 
-mul-right : tie.Need-mul-right Inv-loop μ-loop
-mul-right c = search needs
-
-array-read-right : tie.Need-array-read-right Inv-loop μ-loop
-array-read-right c = search needs
-
-mul-right-2 : tie.Need-mul-right-2 Inv-loop μ-loop
-mul-right-2 c = search needs
-
-array-read-right-2 : tie.Need-array-read-right-2 Inv-loop μ-loop
-array-read-right-2 c = search needs
+word-requires : tie.Need-word-requires Inv-loop μ-loop
+word-requires c κs = search needs
 
 add-k : tie.Need-add-k Inv-loop μ-loop
 add-k c = search needs
@@ -40,15 +31,4 @@ returns c = search needs
 pub same-spec : {M : Type 1} → statement M
 same-spec =
     tie.close
-    (tie.spec
-    Inv-loop
-    μ-loop
-    loop-holds
-    mul-right
-    array-read-right
-    mul-right-2
-    array-read-right-2
-    add-k
-    loop-less
-    loop-again
-    returns)
+    (tie.spec Inv-loop μ-loop loop-holds word-requires add-k loop-less loop-again returns)

@@ -1,4 +1,4 @@
--- `rows::begin_before` meets its contract, as `table::begin_before`.
+-- `rows::begin_before` meets its contract: below `lo` all ranges begin before the page, from `hi` on none does.
 use borrow.Author.Needs.{needs}
 use native.Mathlib.Omega.{arith}
 use mathlib.Core.Path.{_≡_, ap, _∙_}

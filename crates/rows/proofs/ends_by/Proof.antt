@@ -1,4 +1,4 @@
--- `rows::ends_by` meets its contract, as `table::ends_by`.
+-- `rows::ends_by` meets its contract: of the ranges that begin before the page, the last may reach past it.
 use native.Mathlib.Omega.{arith}
 use borrow.Author.Needs.{needs}
 use Prim.Native.Nat.{_-_}

@@ -2,7 +2,6 @@
 use mathlib.Core.Path.{sym, _∙_}
 use Rattle.sheet.specs.Sheet.{storeOf}
 use Rattle.settle.specs.Depart.{depart-goes, depart-nowhere, depart-same, depart-stays}
-use native.Mathlib.Omega.{arith}
 use borrow.Author.Needs.{needs}
 use Rattle.settle.proofs.depart.Statement.{statement}
 use Rattle.settle.proofs.depart.Tie as tie

@@ -2,7 +2,7 @@
 use mathlib.Core.Path.{ap}
 use Rattle.places.specs.Places.{standsAt}
 use Rattle.places.specs.Loops.{frame-end, frame-hit, frame-turn}
-use mathlib.Core.Path.{_≡_, refl, sym, _∙_}
+use mathlib.Core.Path.{_≡_, sym, _∙_}
 use Prim.Native.Nat.{_-_, _≤_}
 use lib.ListN.{drop, take}
 use Rattle.places.specs.Places.{frameAt}

@@ -10,7 +10,6 @@ use Rattle.store.specs.Tabled.{Covered, covered-at, covered-missing}
 use Rattle.store.specs.Edits.{slot}
 use Rattle.look.specs.Look.{indexIn}
 use Rattle.sheet.specs.Sheet.{storeOf}
-use native.Mathlib.Omega.{arith}
 use borrow.Author.Needs.{needs}
 use Rattle.settle.proofs.old_place.Statement.{statement}
 use Rattle.settle.proofs.old_place.Tie as tie

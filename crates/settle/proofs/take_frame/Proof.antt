@@ -2,7 +2,6 @@
 use Rattle.sheet.specs.Sheet.{storeOf}
 use Rattle.sheet.specs.Edits.{storeOf-sized}
 use Rattle.settle.specs.Depart.{word-taken}
-use native.Mathlib.Omega.{arith}
 use borrow.Author.Needs.{needs}
 use Rattle.settle.proofs.take_frame.Statement.{statement}
 use Rattle.settle.proofs.take_frame.Tie as tie

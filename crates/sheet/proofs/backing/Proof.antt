@@ -1,6 +1,5 @@
 -- `sheet::backing` meets its contract: a kind for each of its two numbers.
 use borrow.Author.Tests.{eq-eqb, ne-eqb}
-use native.Mathlib.Omega.{arith}
 use borrow.Author.Needs.{needs}
 use Rattle.sheet.proofs.backing.Statement.{statement}
 use Rattle.sheet.proofs.backing.Tie as tie

@@ -1,6 +1,5 @@
 -- `sheet::count` meets its contract.
 use Rattle.sheet.specs.Edits.{count-read}
-use native.Mathlib.Omega.{arith}
 use borrow.Author.Needs.{needs}
 use Rattle.sheet.proofs.count.Statement.{statement}
 use Rattle.sheet.proofs.count.Tie as tie

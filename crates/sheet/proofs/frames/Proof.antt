@@ -1,6 +1,5 @@
 -- `sheet::frames` meets its contract.
 use Rattle.sheet.specs.Edits.{frames-read}
-use native.Mathlib.Omega.{arith}
 use borrow.Author.Needs.{needs}
 use Rattle.sheet.proofs.frames.Statement.{statement}
 use Rattle.sheet.proofs.frames.Tie as tie

@@ -1,6 +1,5 @@
 -- `sheet::live` meets its contract.
 use Rattle.sheet.specs.Edits.{live-read}
-use native.Mathlib.Omega.{arith}
 use borrow.Author.Needs.{needs}
 use Rattle.sheet.proofs.live.Statement.{statement}
 use Rattle.sheet.proofs.live.Tie as tie

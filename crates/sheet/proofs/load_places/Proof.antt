@@ -1,7 +1,7 @@
 -- `sheet::load_places` meets its contract. The loop's invariant: the numbers of the frames below `f` are made, and no other changed. The measure is the number
 -- of frames left.
 use mathlib.Core.Path.{_≡_}
-use Prim.Native.Nat.{_-_, _≤_, _<_, _+_}
+use Prim.Native.Nat.{_-_, _≤_, _+_}
 use lib.ListN.{length}
 use Rattle.sheet.specs.Load.{Kept, Spots, kept-same, kept-set, places-loaded, spots-next, spots-none}
 use borrow.Author.Needs.{needs}

@@ -1,8 +1,8 @@
 -- `sheet::load_words` meets its contract. The loop's invariant: the first `i` words are those of the map, and no other number changed.
 use mathlib.Core.Path.{_≡_}
-use Prim.Native.Nat.{_-_, _≤_, _<_, _+_}
+use Prim.Native.Nat.{_-_, _≤_, _+_}
 use lib.ListN.{length}
-use Rattle.sheet.specs.Load.{Kept, Words, kept-same, kept-set, words-loaded, words-next}
+use Rattle.sheet.specs.Load.{Kept, Words, kept-set, words-loaded, words-next}
 use borrow.Author.Needs.{needs}
 use native.Mathlib.Omega.{arith}
 use Rattle.sheet.proofs.load_words.Statement.{statement}

@@ -1,6 +1,5 @@
 -- `sheet::place` meets its contract.
 use Rattle.sheet.specs.Edits.{place-read}
-use native.Mathlib.Omega.{arith}
 use borrow.Author.Needs.{needs}
 use Rattle.sheet.proofs.place.Statement.{statement}
 use Rattle.sheet.proofs.place.Tie as tie

@@ -1,6 +1,5 @@
 -- `sheet::range` meets its contract.
 use Rattle.sheet.specs.Edits.{range-read}
-use native.Mathlib.Omega.{arith}
 use borrow.Author.Needs.{needs}
 use Rattle.sheet.proofs.range.Statement.{statement}
 use Rattle.sheet.proofs.range.Tie as tie

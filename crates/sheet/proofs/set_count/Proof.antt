@@ -1,7 +1,6 @@
 use lib.ListN.{length-set}
 -- `sheet::set_count` meets its contract.
 use Rattle.sheet.specs.Edits.{count-set}
-use native.Mathlib.Omega.{arith}
 use borrow.Author.Needs.{needs}
 use Rattle.sheet.proofs.set_count.Statement.{statement}
 use Rattle.sheet.proofs.set_count.Tie as tie

@@ -1,7 +1,6 @@
 -- `sheet::set_frames` meets its contract.
 use lib.ListN.{length-set}
 use Rattle.sheet.specs.Edits.{frames-set}
-use native.Mathlib.Omega.{arith}
 use borrow.Author.Needs.{needs}
 use Rattle.sheet.proofs.set_frames.Statement.{statement}
 use Rattle.sheet.proofs.set_frames.Tie as tie

@@ -1,7 +1,6 @@
 -- `sheet::set_live` meets its contract.
 use lib.ListN.{length-set}
 use Rattle.sheet.specs.Edits.{live-set}
-use native.Mathlib.Omega.{arith}
 use borrow.Author.Needs.{needs}
 use Rattle.sheet.proofs.set_live.Statement.{statement}
 use Rattle.sheet.proofs.set_live.Tie as tie

@@ -3,7 +3,6 @@ use mathlib.Core.Path.{refl}
 use lib.ListN.{length-set}
 -- `sheet::set_place` meets its contract.
 use Rattle.sheet.specs.Edits.{place-set, spot-made}
-use native.Mathlib.Omega.{arith}
 use borrow.Author.Needs.{needs}
 use Rattle.sheet.proofs.set_place.Statement.{statement}
 use Rattle.sheet.proofs.set_place.Tie as tie

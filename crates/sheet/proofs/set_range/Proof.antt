@@ -2,7 +2,6 @@ use lib.ListN.{length-set}
 use Rattle.sheet.specs.Edits.{Narrow, range-set}
 -- `sheet::set_range` meets its contract: the three numbers tell the range.
 use Rattle.sheet.specs.Edits.{range-set}
-use native.Mathlib.Omega.{arith}
 use borrow.Author.Needs.{needs}
 use Rattle.sheet.proofs.set_range.Statement.{statement}
 use Rattle.sheet.proofs.set_range.Tie as tie

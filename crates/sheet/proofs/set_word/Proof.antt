@@ -2,7 +2,6 @@ use mathlib.Core.Path.{refl}
 use lib.ListN.{length-set}
 -- `sheet::set_word` meets its contract.
 use Rattle.sheet.specs.Edits.{word-set}
-use native.Mathlib.Omega.{arith}
 use borrow.Author.Needs.{needs}
 use Rattle.sheet.proofs.set_word.Statement.{statement}
 use Rattle.sheet.proofs.set_word.Tie as tie

@@ -1,6 +1,5 @@
 -- `sheet::word` meets its contract.
 use Rattle.sheet.specs.Edits.{word-read}
-use native.Mathlib.Omega.{arith}
 use borrow.Author.Needs.{needs}
 use Rattle.sheet.proofs.word.Statement.{statement}
 use Rattle.sheet.proofs.word.Tie as tie

@@ -1,4 +1,4 @@
--- `steps::next_frame` meets its contract, as `frames::highest`. The loop's invariant: the words from `i` on are 0. The measure is `i`.
+-- `steps::next_frame` meets its contract. The loop's invariant: the words from `i` on are 0. The measure is `i`.
 use borrow.Author.Needs.{needs}
 use native.Mathlib.Omega.{arith}
 use mathlib.Core.Path.{_≡_, ap}
@@ -41,7 +41,7 @@ returns c =
     let a = c .before .before .before .before .before .args in
     let l = c .before .before .before .before .loop in
     let t = rw (c .before .before .word .ensures) at (c .top-bit .ensures) in
-    highest-word (storeOf (a .sheet .now) .free) (l .i - 1) _ (omega arith) t (λ k a b. l .inv .1 k (omega arith) b)
+    λ h. highest-word (storeOf (a .sheet .now) .free) (l .i - 1) _ (omega arith) t (λ k a b. l .inv .1 k (omega arith) b)
 
 loop-less : tie.Need-loop-less Inv-loop μ-loop
 loop-less c = search needs
@@ -57,7 +57,7 @@ returns-2 c =
     let a = c .before .before .args in
     let l = c .before .loop in
     let e : spareOf (storeOf (a .sheet .now) .free) 1024 ≡ [] = highest-none (storeOf (a .sheet .now) .free) 1024 (highest-zero (storeOf (a .sheet .now) .free) (λ k h. l .inv .1 k (omega arith) h)) in
-    absurd (omega (arith, ap (λ (l : List ℕ). length l) e, c .before .before .pre))
+    λ h. absurd (omega (arith, ap (λ (l : List ℕ). length l) e, h))
 
 pub next-frame-spec : {M : Type 1} → statement M
 next-frame-spec =

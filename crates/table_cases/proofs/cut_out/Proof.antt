@@ -1,5 +1,9 @@
-use Rattle.edit.specs.Keeps.{cut-fits}
 use native.Mathlib.Omega.{arith}
+use lib.ListN.{take}
+use Rattle.ranges.specs.Few.{carve-more}
+use Rattle.table.specs.Table.{rangedOf}
+use Rattle.table.specs.Searching.{used-length}
+use Rattle.sheet.specs.Sheet.{storeOf}
 use borrow.Author.Needs.{needs}
 use Rattle.table_cases.proofs.cut_out.Statement.{statement}
 use Rattle.table_cases.proofs.cut_out.Tie as tie
@@ -9,9 +13,14 @@ two-requires c κs = search needs
 
 cut-range-requires : tie.Need-cut-range-requires
 cut-range-requires c κs =
-    let T = c .before .two .ensures .0 in
     let a = c .before .before .args in
-    (T, c .before .before .pre, cut-fits (c .before .two .result .ranges) (c .before .two .result .count) T (a .a) (a .e) (c .before .before .pre) (omega arith))
+    let h = c .before .before .pre in
+    let w = storeOf (c .before .two .result) in
+    let e = c .before .two .ensures in
+    let m = carve-more (a .a) (a .e) 0 (rangedOf (take (w .count) (w .ranges))) (omega arith) (e .1 .rising) in
+    let n = used-length (w .ranges) (w .count) (e .1) in
+    let f = e .3 in
+    ((e .0, e .1, e .2), (h, omega arith))
 
 returns : tie.Need-returns
 returns c = search needs

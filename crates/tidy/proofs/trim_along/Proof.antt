@@ -5,7 +5,7 @@ use Prim.Native.Nat.{ℕ, _-_, _≤_, _<_}
 use lib.ListN.{drop, length, take}
 use Rattle.lists.specs.Mapped.{mapped}
 use Rattle.table.specs.Table.{rangesOf}
-use Rattle.trim.specs.Trim.{keptPlace}
+use Rattle.store.specs.Trim.{keptPlace}
 use Rattle.store.specs.Abs.{used}
 use Rattle.sheet.specs.Sheet.{storeOf, withPlaces}
 use Rattle.sound_places.specs.Windows.{Hinted}
