@@ -162,13 +162,13 @@ pub fn searched(
 }
 
 // The spots of the window of a range with this span, which has the spot x in it: from the first up to the last, and 0 if it reaches the next backing.
-fn window_start(x: u64, span: u64) -> u64
+pub fn window_start(x: u64, span: u64) -> u64
     ensures { λ r. ⌜ r ≡ x - x % 4294967296 + span / 4294967296 ⌝ }
 {
     x - x % 4294967296 + span / 4294967296
 }
 
-fn window_end(x: u64, span: u64) -> u64
+pub fn window_end(x: u64, span: u64) -> u64
     ensures { λ r. ⌜ r ≡ pick (leb 4294967296 (span / 4294967296 + span % 4294967296)) 0 (x - x % 4294967296 + (span / 4294967296 + span % 4294967296)) ⌝ }
 {
     let n = span / 4294967296 + span % 4294967296;

@@ -20,7 +20,7 @@ use Rattle.chains.specs.Chains.{Chained}
 use Rattle.columns.specs.Ranges.{Spans, Tags}
 use Rattle.store.specs.Abs.{used}
 use Rattle.sheet.specs.Sheet.{withPlace, withPlaces}
-use Rattle.sound_places.specs.Windows.{Met, Wide, walk-named, outside}
+use Rattle.sound_places.specs.Windows.{Met, Seen, Wide, walk-named, outside}
 
 -- how long the columns and the links of the ranges are
 pub record Long (ts xs l : List ℕ) : Type 0 where
@@ -78,8 +78,7 @@ kept-zero rs p h =
     by-test (named (p .backing) (p .index) rs) (λ t. rw t) (λ t. rw t (sym z))
 
 -- ---- the place that trimming keeps, by what the walk along the chains meets
-module _ (S : Store) (full : length (S .ranges) ≡ 512) (n : ℕ) (ts xs l : List ℕ) (T : Told S n ts xs l) (p : Place) (small : p .index < 4294967296) (r : ℕ)
-    (M : Met ts xs (take 1024 l) (drop 1024 l) n (p .backing * 4294967296 + p .index) r) where
+module _ (S : Store) (full : length (S .ranges) ≡ 512) (n : ℕ) (ts xs l : List ℕ) (T : Told S n ts xs l) (p : Place) (small : p .index < 4294967296) where
   abbrev x : ℕ
   x = p .backing * 4294967296 + p .index
 
@@ -91,10 +90,15 @@ module _ (S : Store) (full : length (S .ranges) ≡ 512) (n : ℕ) (ts xs l : Li
       ∙ walk-named (S .ranges) ts xs n (omega (arith, T .few)) (T .tags) (T .spans) (take 1024 l) (drop 1024 l) (T .chained) (p .backing) (p .index)
       ∙ ap₂ (λ c j. not (allBelow (outside ts xs c j) (getD (take 1024 l) (c % 1024) 0))) b i
 
-  -- nothing is met: the place goes
-  pub met-none : r ≡ 0 → nowhere ≡ keptPlace (rangesOf (used S)) p
-  met-none z = rw (told, M .none z)
+  -- it lies in the window that was found last: it stays
+  pub met-seen : (low high : ℕ) → Seen ts xs (take 1024 l) low high → low ≤ x → x < high → keptPlace (rangesOf (used S)) p ≡ p
+  met-seen low high W b h = rw (told, W .met x b h)
 
-  -- a window is met: it stays
-  pub met-some : (r ≡ 0 → ⊥) → keptPlace (rangesOf (used S)) p ≡ p
-  met-some z = rw (told, M .some (omega arith))
+  module _ (r : ℕ) (M : Met ts xs (take 1024 l) (drop 1024 l) n x r) where
+    -- nothing is met: the place goes
+    pub met-none : r ≡ 0 → nowhere ≡ keptPlace (rangesOf (used S)) p
+    met-none z = rw (told, M .none z)
+
+    -- a window is met: it stays
+    pub met-some : (r ≡ 0 → ⊥) → keptPlace (rangesOf (used S)) p ≡ p
+    met-some z = rw (told, M .some (omega arith))

@@ -51,7 +51,8 @@ fn window_of(
     )
 }
 
-// Each frame kept where it stands if a range has that in its window, else nowhere. A frame's range is looked for from that of the frame before on.
+// Each frame kept where it stands if a range has that in its window, else nowhere. The window that was found last, from spot `low` up to `high`, is looked at first,
+// and a frame's range is looked for from that of the frame before on.
 fn trim_along(
     sheet: &mut [u64; 2579],
     count: usize,
@@ -64,11 +65,17 @@ fn trim_along(
 {
     let frames = sheet::frames(sheet);
     let mut hint: usize = 0;
+    let mut low: u64 = 0;
+    let mut high: u64 = 0;
     let mut f: usize = 0;
     while f < frames {
         let p = sheet::place(sheet, f);
         let x = (p.backing as u64) * 4294967296 + (p.index as u64);
         if x == 0 {
+            f += 1;
+            continue;
+        }
+        if (low <= x) & (x < high) {
             f += 1;
             continue;
         }
@@ -82,7 +89,10 @@ fn trim_along(
             f += 1;
             continue;
         }
+        let span = spans[met - 1];
         hint = met;
+        low = sound_places::window_start(x, span);
+        high = sound_places::window_end(x, span);
         f += 1;
     }
 }
