@@ -340,3 +340,9 @@ pub fn gets(name: &[u8], s: Store, object: u32, offset: usize, want: &[u8])
     let pool = five();
     report(name, read_is(s, &pool, object, offset, want));
 }
+
+// An add, and a write of one byte, that are refused.
+pub fn turned(name: &[u8], s: Store, page: usize, offset: usize, number: u8) {
+    let a = add_refused(s, 20480, 0, page, number);
+    report(name, a & write_refused(s, 20480, 0, offset, 1, number));
+}
