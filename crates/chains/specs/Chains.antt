@@ -7,8 +7,8 @@ use native.Mathlib.Nat.{not-suc-le-zero}
 use native.Mathlib.Numerals.{add-one}
 use native.Mathlib.Omega.{arith}
 use lib.Dec.{eqb}
-use lib.ListN.{drop, getD, getD-replicate, length, length-drop, length-set, replicate, set, take}
-use lib.Seq.{drop-set-add, drop-set-lt, getD-drop, getD-set-other, getD-set-same, getD-take, length-take-le, take-set-le, take-set-lt}
+use lib.ListN.{drop, getD, getD-replicate, length, length-drop, replicate, set, take}
+use lib.Seq.{drop-set-add, drop-set-lt, getD-set-other, getD-set-same, getD-take, length-take-le, take-set-le, take-set-lt}
 use borrow.Author.Tests.{eq-eqb, ne-eqb}
 use Rattle.lists.specs.Test.{pick, by-eq, by-test}
 
@@ -60,10 +60,6 @@ module _ (P : ℕ → Bool) (n : ℕ) where
   last-before : P n ≡ false → lastBelow P (n + 1) ≡ lastBelow P n
   unfolding lastBelow
   last-before e = rw (add-one, e)
-
-pub chained-none : (ks ns : List ℕ) → Chained ks 0 (replicate 1024 0) ns
-unfolding lastBelow
-chained-none ks ns = record { heads = λ h l. getD-replicate 1024 h 0 0 l; next = λ i l. absurd (not-suc-le-zero l) }
 
 pub chained-next : (ks hs ns : List ℕ) (n : ℕ) → length hs ≡ 1024 → n < length ns → Chained ks n hs ns
     → Chained ks (n + 1) (set hs (getD ks n 0 % 1024) (n + 1)) (set ns n (getD hs (getD ks n 0 % 1024) 0))

@@ -30,7 +30,7 @@ use Rattle.pages.specs.Any.{zeros}
 use Rattle.pages.specs.Enter.{enter, closed}
 use Rattle.shares.specs.Reranged.{Reranged}
 use Rattle.copies.specs.Parts.{reranged-part}
-use Rattle.copies.specs.Spans.{inside-zeros}
+use Rattle.pages.specs.Any.{inside-zeros}
 use Rattle.writes.specs.Written as writes
 use Rattle.writes.specs.Parts.{written-part}
 use Rattle.access.specs.Enters.{spare-count, range-count, want-count}

@@ -1,10 +1,9 @@
 -- The parts of a span as the code has them: what each part asks for, and what they come to.
-use mathlib.Core.Path.{_≡_, refl, ap, sym, subst, _∙_}
+use mathlib.Core.Path.{_≡_, refl, ap, subst, _∙_}
 use mathlib.Core.List.{List}
 use Prim.Native.Nat.{ℕ, _+_, _-_, _*_, _/_, _%_, _≤_, _<_, min}
 use native.Mathlib.Nat.{le-refl, div-add-mod'}
 use native.Mathlib.Omega.{arith}
-use lib.ListN.{length-replicate}
 use Rattle.store.specs.declared.Store.{Store}
 use Rattle.ranges.specs.Range.{line}
 use Rattle.book.specs.Page.{Span, spanOf, tailAt}
@@ -14,7 +13,7 @@ use Rattle.book.specs.Copy.{copyEqual, zeroing}
 use Rattle.laws.specs.Spans.{span-sum, head-fits, tail-fits, whole-in, span-same}
 use Rattle.store.specs.Spare.{workOf}
 use Rattle.pages.specs.Inside.{Inside}
-use Rattle.pages.specs.Any.{zeros, inside-any}
+use Rattle.pages.specs.Any.{zeros, inside-zeros}
 use Rattle.pages.specs.Clear.{Spared, Cleared}
 use Rattle.pages.specs.Part.{clear-part}
 use Rattle.writes.specs.Written.{Room, Written}
@@ -24,10 +23,6 @@ use Rattle.copies.specs.Room.{ZeroRoom, EqualRoom, Worked}
 use Rattle.copies.specs.Equal.{equal-head, equal-middle, equal-tail, equal-part}
 use Rattle.copies.specs.Zero.{zero-head, zero-middle, zero-tail}
 use Rattle.copies.specs.Parts.{zero-part}
-
--- a store inside a call is so with a pool of zeros
-pub inside-zeros : (s : Store) (x : List ℕ) → Inside s x → Inside s (zeros s)
-inside-zeros s x I = inside-any s x I (zeros s) (length-replicate {A = ℕ} (s .frames * 4096) 0 ∙ sym (I .pool))
 
 -- ---- zeroing
 

@@ -12,7 +12,7 @@ use Rattle.store.specs.declared.Store.{Store}
 use Rattle.lists.specs.Test.{pick}
 use Rattle.lists.specs.Every.{All}
 use Rattle.book.specs.Need.{needAdd, needWrite, needCopy, needShadow, needZero}
-use Rattle.book.specs.Book.{Call, newObject, dropObject, add, lookUp, show, read, write, copy, shadow, zeroOut, counts, Table, table, entry, lacking, lowest, pastEnd}
+use Rattle.book.specs.Book.{Call, newObject, dropObject, add, lookUp, show, read, write, copy, shadow, zeroOut, Table, table, entry, lacking, lowest, pastEnd}
 use Rattle.store.specs.Abs.{liveOf, bookOf}
 use Rattle.store.specs.Sound.{sound?}
 
@@ -96,10 +96,6 @@ module _ (s : Store) (n o x q y m : ℕ) (e : 0 ≡ lowest (pairing s n o x q y 
 -- ---- the number of each call, of a store
 
 module _ (s : Store) (k : ℕ) where
-  pub counts-number : Row ((not (sound? s), 1) ∷ []) k → (x : List ℕ) → k ≡ refusal s x counts
-  unfolding table
-  counts-number r x = decides _ k r
-
   pub new-number : (o : ℕ) → Row ((not (sound? s), 1) ∷ (ltb 31 o, 3) ∷ (getD (liveOf (s .live)) o false, 4) ∷ []) k → (x : List ℕ) → k ≡ refusal s x (newObject o)
   unfolding table bookOf
   new-number o r x = decides _ k r

@@ -87,14 +87,6 @@ pub record Rows (l : List PageRange) (n : ℕ) (w : List ℕ) : Type 0 where
   pub tag : (i : ℕ) → i < n → getD w (1024 + i) 0 ≡ tagOf (getD l i zeroRange .backing)
   pub narrow : (i : ℕ) → i < n → Narrow (getD l i zeroRange)
 
-pub rows-none : (l : List PageRange) (w : List ℕ) → Rows l 0 w
-rows-none l w = record {
-  line = λ i h. absurd (not-suc-le-zero h);
-  span = λ i h. absurd (not-suc-le-zero h);
-  tag = λ i h. absurd (not-suc-le-zero h);
-  narrow = λ i h. absurd (not-suc-le-zero h);
-}
-
 module _ (l : List PageRange) (w : List ℕ) (n : ℕ) (long : length w ≡ 2579) (few : n < 512) where
   abbrev r : PageRange
   r = getD l n zeroRange

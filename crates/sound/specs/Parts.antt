@@ -19,7 +19,7 @@ use Rattle.table.specs.Table.{numberOf, rangesOf, zeroRange}
 use Rattle.places.specs.Places.{placeAt}
 use Rattle.chains.specs.Chains.{Chained}
 use Rattle.columns.specs.Columns.{spotOf, spots-done, spotted}
-use Rattle.columns.specs.Ranges.{Tag, Tags, Span, Spans, span-told, tag-many, tag-nothing, tag-single}
+use Rattle.columns.specs.Ranges.{Tag, Tags, Spans, span-told, tag-many, tag-nothing, tag-single}
 use Rattle.sheet.specs.Sheet.{spanNumber, storeOf, tagOf, withCount, withFrames, withFree, withLive, withPlaces, withRanges}
 use Rattle.sheet.specs.Load.{Rows, Spots, ranges-loaded, spots-kept}
 use Rattle.store.specs.Abs.{used, liveBit}

@@ -57,9 +57,6 @@ module _ (xs : List ℕ) (n : ℕ) where
   pub key-chains : (hs ns : List ℕ) → Chained (keysOf xs n) n hs ns → SpotChains xs n hs ns
   key-chains hs ns C = record { keys = keysOf xs n; filled = record { each = λ k h. key-at k h }; chained = C }
 
-pub spot-links : (xs : List ℕ) (n : ℕ) (hs ns : List ℕ) → SpotChains xs n hs ns → SpotLinks xs n ns
-spot-links xs n hs ns C = record { keys = C .keys; filled = C .filled; links = C .chained .next }
-
 -- a free frame stands at no other's place
 alone-free : (ps : List Place) (f : ℕ) → placeAt ps f .backing ≡ 0 → true ≡ alone? ps f
 unfolding alone?

@@ -1,5 +1,5 @@
 -- The slots of a table, one after the other: those in use have ranges that rise, the others are zero.
-use mathlib.Core.Path.{_≡_, refl, sym, _∙_}
+use mathlib.Core.Path.{_≡_}
 use mathlib.Core.Bool.{Bool, true, false, _&&_}
 use mathlib.Core.List.{List}
 use Prim.Native.Nat.{ℕ, _+_, _≤_, _<_, max}
@@ -9,14 +9,14 @@ use lib.ListN.{drop, getD, length, take}
 use borrow.Author.Tests.{eqb-true, leb-true, lt-ltb, le-ltb}
 use Rattle.table.specs.declared.PageRange.{PageRange}
 use Rattle.lists.specs.Test.{pick, and-left, and-right, by-lt}
-use Rattle.lists.specs.Every.{every, none-both}
+use Rattle.lists.specs.Every.{every}
 use Rattle.lists.specs.Rest.{rest-end, rest-fails, rest-turn}
 use Rattle.ranges.specs.Range.{from, upto}
 use Rattle.table.specs.Table.{rangeOf, zeroRange, Small}
 use Rattle.store.specs.Abs.{liveBit}
-use Rattle.store.specs.Sound.{isNothing?, zero?}
+use Rattle.store.specs.Sound.{zero?}
 use Rattle.sheet.specs.Load.{Kept, Rows}
-use Rattle.sound_ranges.specs.Shape.{rises?, rises-end, rises-fails, rises-turn, shaped?, shapedKind?, shaped-small}
+use Rattle.sound_ranges.specs.Shape.{rises?, rises-end, rises-fails, rises-turn, shaped?, shaped-small}
 
 -- a slot, used or not
 abbrev pub slot? : ℕ → Bool → ℕ → PageRange → Bool

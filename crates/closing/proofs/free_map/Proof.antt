@@ -1,9 +1,8 @@
 -- `closing::free_map` meets its contract. The loop's invariant: the bits of the frames below `f` are made, and the others are clear.
-use Prim.Native.Nat.{ℕ, _-_, _+_, _≤_, _<_}
+use Prim.Native.Nat.{_-_, _≤_}
 use Rattle.places.specs.Map.{Built, built-done, built-none, built-skip, built-store}
 use Rattle.sheet.specs.Sheet.{storeOf}
 use borrow.Author.Needs.{needs}
-use native.Mathlib.Omega.{arith}
 use Rattle.closing.proofs.free_map.Statement.{statement}
 use Rattle.closing.proofs.free_map.Tie as tie
 

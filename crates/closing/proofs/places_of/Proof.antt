@@ -1,9 +1,9 @@
 -- `closing::places_of` meets its contract. The loop's invariant: the first `f` places are those of the sheet.
 use Rattle.closing.specs.Made.{Made, made-done, made-next, made-none}
-use Prim.Native.Nat.{ℕ, _-_, _+_, _≤_, _<_}
+use Prim.Native.Nat.{_-_, _≤_}
 use mathlib.Core.Path.{_≡_, sym, _∙_}
 use lib.ListN.{length, length-set}
-use Rattle.places.specs.Places.{nowhere, placeAt}
+use Rattle.places.specs.Places.{nowhere}
 use Rattle.sheet.specs.Sheet.{storeOf}
 use Rattle.sheet.specs.Edits.{storeOf-sized}
 use borrow.Author.Needs.{needs}

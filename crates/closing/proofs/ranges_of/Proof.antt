@@ -1,10 +1,10 @@
 -- `closing::ranges_of` meets its contract. The loop's invariant: the first `i` ranges are those of the sheet.
 use Rattle.closing.specs.Made.{Made, made-done, made-next, made-none}
-use Prim.Native.Nat.{ℕ, _-_, _+_, _≤_, _<_}
+use Prim.Native.Nat.{_-_, _≤_}
 use mathlib.Core.Path.{_≡_, sym, _∙_}
-use lib.ListN.{getD, length, length-set}
+use lib.ListN.{length, length-set}
 use Rattle.table.specs.Table.{zeroRange}
-use Rattle.sheet.specs.Sheet.{rangeAt, storeOf}
+use Rattle.sheet.specs.Sheet.{storeOf}
 use Rattle.sheet.specs.Edits.{storeOf-sized}
 use borrow.Author.Needs.{needs}
 use native.Mathlib.Omega.{arith}

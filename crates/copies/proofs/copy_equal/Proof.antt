@@ -5,7 +5,6 @@ use Rattle.book.specs.Page.{spanOf}
 use Rattle.refuse.specs.Spans.{spanIs, span-is}
 use Rattle.copies.specs.Spans.{copy-steps, span-few}
 use Rattle.sheet.specs.Sheet.{storeOf}
-use native.Mathlib.Omega.{arith}
 use borrow.Author.Needs.{needs}
 use Rattle.copies.proofs.copy_equal.Statement.{statement}
 use Rattle.copies.proofs.copy_equal.Tie as tie

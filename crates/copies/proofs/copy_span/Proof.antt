@@ -3,7 +3,6 @@ use mathlib.Core.Path.{_≡_, sym, _∙_}
 use Prim.Native.Nat.{_%_}
 use Rattle.copies.specs.Enters.{copy-even, copy-uneven}
 use Rattle.sheet.specs.Sheet.{storeOf}
-use native.Mathlib.Omega.{arith}
 use borrow.Author.Needs.{needs}
 use Rattle.copies.proofs.copy_span.Statement.{statement}
 use Rattle.copies.proofs.copy_span.Tie as tie

@@ -5,7 +5,6 @@ use Rattle.book.specs.Page.{spanOf}
 use Rattle.refuse.specs.Spans.{spanIs, span-is}
 use Rattle.copies.specs.Spans.{zero-steps}
 use Rattle.sheet.specs.Sheet.{storeOf}
-use native.Mathlib.Omega.{arith}
 use borrow.Author.Needs.{needs}
 use Rattle.copies.proofs.zero_span.Statement.{statement}
 use Rattle.copies.proofs.zero_span.Tie as tie

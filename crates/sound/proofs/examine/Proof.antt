@@ -4,7 +4,6 @@ use mathlib.Core.Bool.{false≢true}
 use lib.ListN.{length, length-map}
 use Rattle.store.specs.Sound.{Sized}
 use Rattle.sound.specs.Parts.{counts-says, examined, slots-none, slots-numbers, sound-none, sound-ranges}
-use native.Mathlib.Omega.{arith}
 use borrow.Author.Needs.{needs}
 use Rattle.sound.proofs.examine.Statement.{statement}
 use Rattle.sound.proofs.examine.Tie as tie

@@ -2,7 +2,6 @@
 use mathlib.Core.Path.{_≡_}
 use lib.ListN.{length, length-map}
 use Rattle.sound.specs.Parts.{loaded-told}
-use native.Mathlib.Omega.{arith}
 use borrow.Author.Needs.{needs}
 use Rattle.sound.proofs.load.Statement.{statement}
 use Rattle.sound.proofs.load.Tie as tie

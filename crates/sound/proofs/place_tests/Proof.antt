@@ -2,7 +2,6 @@
 use mathlib.Core.Path.{sym, _∙_}
 use mathlib.Core.Bool.{false≢true}
 use Rattle.sound.specs.Parts.{placed-none, placed-rest}
-use native.Mathlib.Omega.{arith}
 use borrow.Author.Needs.{needs}
 use Rattle.sound.proofs.place_tests.Statement.{statement}
 use Rattle.sound.proofs.place_tests.Tie as tie

@@ -1,9 +1,8 @@
 -- `sound::tests` meets its contract.
 use mathlib.Core.Path.{sym, _∙_}
 use mathlib.Core.Bool.{false≢true}
-use native.Mathlib.Omega.{arith}
 use borrow.Author.Needs.{needs}
-use Rattle.sound.specs.Parts.{agreeing?, tags-long}
+use Rattle.sound.specs.Parts.{agreeing?}
 use Rattle.sound.proofs.tests.Statement.{statement}
 use Rattle.sound.proofs.tests.Tie as tie
 

@@ -1,8 +1,7 @@
 -- `sound_places::alone` meets its contract. The loop's invariant: the walk along the chain is at link `g`. The measure is `g`. A free frame passes.
-use Prim.Native.Nat.{_-_, _+_}
-use lib.ListN.{drop, getD}
+use Prim.Native.Nat.{_-_}
+use lib.ListN.{drop}
 use lib.Seq.{getD-drop}
-use mathlib.Core.Path.{_≡_, sym, _∙_}
 use Rattle.chains.specs.Walk.{Walk, walk-end, walk-hit, walk-less, walk-next}
 use Rattle.columns.specs.Columns.{spotted}
 use Rattle.store.specs.Sound.{alone?}

@@ -1,6 +1,5 @@
 use Prim.Native.Nat.{_-_, _≤_}
 use borrow.Author.Needs.{needs}
-use native.Mathlib.Omega.{arith}
 use Rattle.sound_places.proofs.begun.Statement.{statement}
 use Rattle.sound_places.proofs.begun.Tie as tie
 

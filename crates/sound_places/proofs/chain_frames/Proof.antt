@@ -1,10 +1,10 @@
 -- `sound_places::chain_frames` meets its contract. The loop's invariant: the frames below `f` pass, and are chained. The measure is the number of frames left.
 use Prim.Native.Nat.{ℕ}
 use mathlib.Core.Path.{ap}
-use mathlib.Core.Path.{_≡_, refl, sym, _∙_}
+use mathlib.Core.Path.{_≡_, sym, _∙_}
 use mathlib.Core.Bool.{true, false≢true}
 use Prim.Native.Nat.{_-_, _+_, _≤_, _%_}
-use lib.ListN.{drop, getD, length, length-set, set, take}
+use lib.ListN.{drop, length, length-set, take}
 use Rattle.lists.specs.Every.{allBelow, below-done, below-fails, below-next, below-zero}
 use Rattle.chains.specs.Chains.{Chained, linked-none}
 use Rattle.columns.specs.Columns.{spotted}

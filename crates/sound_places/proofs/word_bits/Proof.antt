@@ -7,7 +7,6 @@ use native.Mathlib.Nat.{div-one}
 use Rattle.lists.specs.Every.{allBelow, below-done, below-fails, below-next, below-zero}
 use Rattle.sound_places.specs.Bits.{bit-next, wordKept?}
 use borrow.Author.Needs.{needs}
-use native.Mathlib.Omega.{arith}
 use Rattle.sound_places.proofs.word_bits.Statement.{statement}
 use Rattle.sound_places.proofs.word_bits.Tie as tie
 

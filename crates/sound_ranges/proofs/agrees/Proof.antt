@@ -1,10 +1,10 @@
 -- `sound_ranges::agrees` meets its contract. The loop's invariant: the walk along the chain is at link `k`. The measure is `k`. A range of the very backing
 -- agrees with all before it, and so then does range `i`.
-use mathlib.Core.Path.{_≡_, sym, ap, _∙_}
+use mathlib.Core.Path.{_≡_, sym, _∙_}
 use mathlib.Core.Bool.{true}
-use Prim.Native.Nat.{_+_, _-_, _≤_}
+use Prim.Native.Nat.{_+_, _-_}
 use native.Mathlib.Omega.{arith}
-use lib.ListN.{drop, getD}
+use lib.ListN.{drop}
 use lib.Seq.{getD-drop}
 use borrow.Author.Needs.{needs}
 use Rattle.lists.specs.Every.{allBelow}

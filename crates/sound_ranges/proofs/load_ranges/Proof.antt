@@ -3,10 +3,10 @@ use lib.ListN.{getD}
 use Rattle.table.specs.Table.{zeroRange}
 -- `sound_ranges::load_ranges` meets its contract. The loop's invariant: the slots from `i` on pass exactly if all do, and those before are in the sheet.
 use mathlib.Core.Bool.{false≢true}
-use mathlib.Core.Path.{_≡_, refl, sym, _∙_}
-use Prim.Native.Nat.{_-_, _≤_, _<_, _+_}
+use mathlib.Core.Path.{_≡_, sym, _∙_}
+use Prim.Native.Nat.{_-_, _≤_}
 use lib.ListN.{length}
-use Rattle.sheet.specs.Load.{Kept, Rows, kept-same, rows-apart, rows-next, rows-none}
+use Rattle.sheet.specs.Load.{Kept, Rows, rows-apart, rows-next}
 use Rattle.sound_ranges.specs.Slots.{slot-small, slot-start, slots?, slots-end, slots-fail, slots-turn}
 use borrow.Author.Needs.{needs}
 use native.Mathlib.Omega.{arith}

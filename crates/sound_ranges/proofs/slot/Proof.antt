@@ -1,5 +1,4 @@
 -- `sound_ranges::slot` meets its contract.
-use native.Mathlib.Omega.{arith}
 use borrow.Author.Needs.{needs}
 use Rattle.sound_ranges.proofs.slot.Statement.{statement}
 use Rattle.sound_ranges.proofs.slot.Tie as tie
