@@ -16,14 +16,14 @@ use Rattle.frames.specs.Free.{freeBit, cleared, marked}
 and-bit : (a b g : ℕ) → bitAnd a b / 2 ^ g % 2 ≡ min (a / 2 ^ g % 2) (b / 2 ^ g % 2)
 and-bit a b g = rw (and-shr a b g) (omega (arith, and-step (a / 2 ^ g) (b / 2 ^ g)))
 
-or-bit : (a b g : ℕ) → bitOr a b / 2 ^ g % 2 ≡ max (a / 2 ^ g % 2) (b / 2 ^ g % 2)
+pub or-bit : (a b g : ℕ) → bitOr a b / 2 ^ g % 2 ≡ max (a / 2 ^ g % 2) (b / 2 ^ g % 2)
 or-bit a b g = rw (or-shr a b g) (omega (arith, or-step (a / 2 ^ g) (b / 2 ^ g)))
 
 -- the bits of 2 ^ b: bit b alone
-one-same : (b : ℕ) → 2 ^ b / 2 ^ b % 2 ≡ 1
+pub one-same : (b : ℕ) → 2 ^ b / 2 ^ b % 2 ≡ 1
 one-same b = rw (div-self (pow-pos b))
 
-one-other : (b g : ℕ) → (g ≡ b → ⊥) → 2 ^ b / 2 ^ g % 2 ≡ 0
+pub one-other : (b g : ℕ) → (g ≡ b → ⊥) → 2 ^ b / 2 ^ g % 2 ≡ 0
 one-other b g ne =
     by-lt b g
     (λ l. rw (div-eq-of-lt (pow-lt l)))

@@ -1,19 +1,20 @@
--- The free map made anew, frame by frame, and what it says as a list.
+-- The free map made anew, word by word, and what it says as a list.
 use mathlib.Core.Path.{_≡_, refl, ap, sym, _∙_}
-use mathlib.Core.Bool.{true, false, _&&_}
+use mathlib.Core.Bool.{Bool, true, false, _&&_}
 use mathlib.Core.List.{List, [], _∷_, _++_}
 use Prim.Native.Nat.{ℕ, zero, suc, _+_, _-_, _*_, _/_, _%_, _^_, _≤_, _<_}
+use native.Mathlib.Nat.{zero-div, zero-mul}
 use native.Mathlib.Omega.{arith}
 use native.Mathlib.Numerals.{add-one}
 use borrow.Author.Tests.{eq-eqb, le-ltb, lt-ltb, ne-eqb}
-use lib.Bits.{bitOr}
+use mir.Val.{boolByte}
+use lib.Bits.{bitOr, or-zero-r}
 use lib.Dec.{eqb, ltb}
-use lib.ListN.{getD, length, length-set, replicate, set, take}
-use lib.Seq.{length-take-le, take-suc}
-use Rattle.lists.specs.Listed.{one-at}
+use lib.ListN.{getD, length, length-set, replicate, set, take, List·getD-eq-default}
+use lib.Seq.{getD-set-other, getD-set-same, length-take-le, take-suc}
 use Rattle.lists.specs.Test.{by-eq, by-lt, by-test, pick}
-use Rattle.frames.specs.Free.{isFree, marked, spareOf}
-use Rattle.frames.specs.Bits.{marked-other, marked-same, one-shifted, zero-bit}
+use Rattle.frames.specs.Free.{freeBit, isFree, spareOf}
+use Rattle.frames.specs.Bits.{not-bit, one-other, one-same, one-shifted, or-bit, zero-bit}
 use Rattle.frames.specs.Spare.{spare-above}
 use Rattle.places.specs.declared.Place.{Place}
 use Rattle.places.specs.Places.{FreeMap, nowhere, placeAt, usedCount, vacant, vacantFrom}
@@ -29,64 +30,123 @@ vacant-snoc k acc (x ∷ ps) p =
     let a : List ℕ = pick (eqb (x .backing) 0) (k ∷ acc) acc in
     vacant-snoc (suc k) a ps p ∙ ap (λ j. pick (eqb (p .backing) 0) (j ∷ vacantFrom (suc k) a ps) (vacantFrom (suc k) a ps)) z
 
--- the map once the frames below f are looked at
-pub record Built (n : ℕ) (ps : List Place) (f : ℕ) (d : List ℕ) : Type 0 where
+-- the word of the 64 frames from a on, once the first k are looked at
+pub record Word (n : ℕ) (ps : List Place) (a k w : ℕ) : Type 0 where
+  pub bits : (g : ℕ) → g < 64 → eqb (w / 2 ^ g % 2) 1 ≡ (ltb g k && vacant n ps (a + g))
+
+-- n of the k frames from a on stand at no backing: what that says where it is none or all of them
+pub record Vacant (ps : List Place) (a k n : ℕ) : Type 0 where
+  pub few : n ≤ k
+  pub none : n ≡ 0 → (g : ℕ) → g < k → placeAt ps (a + g) .backing ≡ 0 → ⊥
+  pub all : n ≡ k → (g : ℕ) → g < k → placeAt ps (a + g) .backing ≡ 0
+
+-- the map once the words below i are made
+pub record Built (n : ℕ) (ps : List Place) (i : ℕ) (d : List ℕ) : Type 0 where
   pub long : length d ≡ 16
-  pub bits : (g : ℕ) → isFree d g ≡ (ltb g f && vacant n ps g)
+  pub bits : (g : ℕ) → g < i * 64 → isFree d g ≡ vacant n ps g
+
+-- a frame more is looked at: the others as before
+earlier : (f g : ℕ) → (g ≡ f → ⊥) → ltb g (f + 1) ≡ ltb g f
+earlier f g ne =
+    by-lt g f
+    (λ l. rw (lt-ltb g f l) (lt-ltb g (f + 1) (omega arith)))
+    (λ l. rw (le-ltb g f l) (le-ltb g (f + 1) (by-lt g (f + 1) (λ h. absurd (ne (omega arith))) (λ h. h))))
 
 module _ (n : ℕ) (ps : List Place) where
-  pub built-none : Built n ps 0 (replicate 16 0)
-  built-none =
+  pub word-none : (a : ℕ) → Word n ps a 0 0
+  word-none a = record { bits = λ g l. rw (zero-div (2 ^ g), le-ltb g 0 (omega arith)) }
+
+  word-free : (a k w : ℕ) → Word n ps a k w → vacant n ps (a + k) ≡ true → Word n ps a (k + 1) (bitOr w (2 ^ k))
+  word-free a k w W t =
       record {
-        long = refl;
-        bits = λ g. ap (λ w. eqb w 1) (zero-bit (replicate 16 0) g (one-at {A = ℕ} 0 16 (g / 64))) ∙ rw (le-ltb g 0 (omega arith));
+        bits = λ g l. by-eq g k
+            (λ e. rw e (eq-eqb (bitOr w (2 ^ k) / 2 ^ k % 2) 1 (omega (arith, or-bit w (2 ^ k) k, one-same k)) ∙ sym (rw (lt-ltb k (k + 1) (omega arith)) t)))
+            (λ ne.
+            let z : bitOr w (2 ^ k) / 2 ^ g % 2 ≡ w / 2 ^ g % 2 = omega (arith, or-bit w (2 ^ k) g, one-other k g ne) in
+            ap (λ x. eqb x 1) z ∙ W .bits g l ∙ ap (λ x. x && vacant n ps (a + g)) (sym (earlier k g ne)));
       }
 
-  -- a frame more is looked at: the others as before
-  earlier : (f g : ℕ) → (g ≡ f → ⊥) → ltb g (f + 1) ≡ ltb g f
-  earlier f g ne =
-      by-lt g f
-      (λ l. rw (lt-ltb g f l) (lt-ltb g (f + 1) (omega arith)))
-      (λ l. rw (le-ltb g f l) (le-ltb g (f + 1) (by-lt g (f + 1) (λ h. absurd (ne (omega arith))) (λ h. h))))
-
-  built-mark : (f : ℕ) (d : List ℕ) → f < 1024 → Built n ps f d → vacant n ps f ≡ true → Built n ps (f + 1) (marked d f)
-  built-mark f d h b t =
+  word-used : (a k w : ℕ) → Word n ps a k w → vacant n ps (a + k) ≡ false → Word n ps a (k + 1) w
+  word-used a k w W t =
       record {
-        long = unfold marked in simp length-set (b .long);
-        bits = λ g. by-eq g f (λ e. here g e) (λ ne. there g ne);
+        bits = λ g l. W .bits g l ∙ by-eq g k
+            (λ e. rw e (rw (le-ltb k k (omega arith)) (sym (rw (lt-ltb k (k + 1) (omega arith)) t))))
+            (λ ne. ap (λ x. x && vacant n ps (a + g)) (sym (earlier k g ne)));
+      }
+
+  -- frame a + k is looked at: its bit is put into the word
+  pub word-next : (a k w : ℕ) (t : Bool) → k < 64 → t ≡ vacant n ps (a + k) → Word n ps a k w → Word n ps a (k + 1) (bitOr w (boolByte t * 2 ^ k % 2 ^ 64))
+  word-next a k w true h e W = rw (one-shifted k h) (word-free a k w W (sym e))
+  word-next a k w false h e W = let z : 0 * 2 ^ k ≡ 0 = zero-mul (2 ^ k) in rw (z, or-zero-r w) (word-used a k w W (sym e))
+
+  pub word-done : (a k w : ℕ) → k ≤ 64 → 64 ≤ k → Word n ps a k w → Word n ps a 64 w
+  word-done a k w l h W = let e : k ≡ 64 = omega arith in rw (← e) W
+
+  -- words of used frames alone, and of free ones alone
+  pub word-empty : (a k : ℕ) → Vacant ps a 64 k → k ≡ 0 → Word n ps a 64 0
+  word-empty a k C e =
+      record { bits = λ g l. rw (zero-div (2 ^ g), ne-eqb (placeAt ps (a + g) .backing) 0 (C .none e g l)) (sym (never (ltb g 64) (ltb (a + g) n))) }
+    where
+      never : (p q : Bool) → (p && (q && false)) ≡ false
+      never true true = refl
+      never true false = refl
+      never false q = refl
+
+  pub word-full : (a k : ℕ) → a + 64 ≤ n → Vacant ps a 64 k → k ≡ 64 → Word n ps a 64 18446744073709551615
+  word-full a k h C e =
+      record {
+        bits = λ g l.
+            let b : 18446744073709551615 / 2 ^ g % 2 ≡ 1 = not-bit 0 g (omega arith) l ∙ rw (zero-div (2 ^ g)) in
+            rw (b, lt-ltb g 64 l, lt-ltb (a + g) n (omega arith), eq-eqb (placeAt ps (a + g) .backing) 0 (C .all e g l));
+      }
+
+  pub built-none : Built n ps 0 (replicate 16 0)
+  built-none = record { long = refl; bits = λ g l. absurd (omega arith) }
+
+  pub built-next : (i : ℕ) (d : List ℕ) (w : ℕ) → i < 16 → Built n ps i d → Word n ps (i * 64) 64 w → Built n ps (i + 1) (set d i w)
+  unfolding freeBit
+  built-next i d w h b W = record { long = simp length-set (b .long); bits = λ g l. by-lt g (i * 64) (λ o. there g o) (λ o. here g o l) }
+    where
+      here : (g : ℕ) → i * 64 ≤ g → g < (i + 1) * 64 → isFree (set d i w) g ≡ vacant n ps g
+      here g o l =
+          let e : g / 64 ≡ i = omega arith in
+          let q : i * 64 + g % 64 ≡ g = omega arith in
+          let k : i < length d = omega (arith, b .long) in
+          let r : freeBit (set d i w) g ≡ w / 2 ^ (g % 64) % 2 = rw (e, getD-set-same d i w 0 k) in
+          let t : (ltb (g % 64) 64 && vacant n ps (i * 64 + g % 64)) ≡ vacant n ps (i * 64 + g % 64) = rw (lt-ltb (g % 64) 64 (omega arith)) in
+          ap (λ x. eqb x 1) r ∙ W .bits (g % 64) (omega arith) ∙ t ∙ ap (vacant n ps) q
+
+      there : (g : ℕ) → g < i * 64 → isFree (set d i w) g ≡ vacant n ps g
+      there g o =
+          let r : freeBit (set d i w) g ≡ freeBit d g = rw (getD-set-other d i (g / 64) w 0 (λ e. omega arith)) in
+          ap (λ x. eqb x 1) r ∙ b .bits g o
+
+  pub built-done : (i : ℕ) (d : List ℕ) → n ≤ 1024 → Built n ps i d → 16 ≤ i → FreeMap n ps d
+  built-done i d m b h =
+      record {
+        long = b .long;
+        bits = λ g. by-lt g (i * 64) (λ l. b .bits g l) (λ l. ap (λ x. eqb x 1) (zero-bit d g (past g l)) ∙ rw (le-ltb g n (omega arith)));
       }
     where
-      inside : f / 64 < length d
-      inside = let e = b .long in omega arith
+      past : (g : ℕ) → i * 64 ≤ g → getD d (g / 64) 0 ≡ 0
+      past g l = List·getD-eq-default d 0 {n = g / 64} (let e = b .long in omega arith)
 
-      here : (g : ℕ) → g ≡ f → isFree (marked d f) g ≡ (ltb g (f + 1) && vacant n ps g)
-      here g e = rw e (ap (λ x. eqb x 1) (marked-same d f inside) ∙ sym (rw (lt-ltb f (f + 1) (omega arith)) t))
+-- ---- frames at no backing, counted
+module _ (ps : List Place) (a : ℕ) where
+  module _ (k n : ℕ) (C : Vacant ps a k n) where
+    pub vacant-more : placeAt ps (a + k) .backing ≡ 0 → Vacant ps a (k + 1) (n + 1)
+    vacant-more z = record {
+      few = let l = C .few in omega arith;
+      none = λ e g l. absurd (omega arith);
+      all = λ e g l. by-eq g k (λ q. rw q z) (λ q. C .all (omega arith) g (omega arith));
+    }
 
-      there : (g : ℕ) → (g ≡ f → ⊥) → isFree (marked d f) g ≡ (ltb g (f + 1) && vacant n ps g)
-      there g ne = ap (λ x. eqb x 1) (marked-other d f inside g ne) ∙ b .bits g ∙ ap (λ x. x && vacant n ps g) (sym (earlier f g ne))
-
-  -- the store that the code makes
-  pub built-store : (f : ℕ) (d : List ℕ) → f < 1024 → Built n ps f d → vacant n ps f ≡ true
-      → Built n ps (f + 1) (set d (f / 64) (bitOr (getD d (f / 64) 0) (1 * 2 ^ (f % 64) % 2 ^ 64)))
-  built-store f d h b t =
-      let e : 1 * 2 ^ (f % 64) % 2 ^ 64 ≡ 2 ^ (f % 64) = one-shifted (f % 64) (omega arith) in
-      rw e (unfold marked in built-mark f d h b t)
-
-  pub built-skip : (f : ℕ) (d : List ℕ) → Built n ps f d → vacant n ps f ≡ false → Built n ps (f + 1) d
-  built-skip f d b t =
-      record {
-        long = b .long;
-        bits = λ g. b .bits g ∙ by-eq g f
-            (λ e. rw e (rw (le-ltb f f (omega arith)) (sym (rw (lt-ltb f (f + 1) (omega arith)) t))))
-            (λ ne. ap (λ x. x && vacant n ps g) (sym (earlier f g ne)));
-      }
-
-  pub built-done : (f : ℕ) (d : List ℕ) → n ≤ 1024 → Built n ps f d → 1024 ≤ f → FreeMap n ps d
-  built-done f d m b h =
-      record {
-        long = b .long;
-        bits = λ g. b .bits g ∙ by-lt g f (λ l. rw (lt-ltb g f l)) (λ l. rw (le-ltb g f l, le-ltb g n (omega arith)));
-      }
+    pub vacant-same : (placeAt ps (a + k) .backing ≡ 0 → ⊥) → Vacant ps a (k + 1) n
+    vacant-same z = record {
+      few = let l = C .few in omega arith;
+      none = λ e g l. by-eq g k (λ q. rw q z) (λ q. C .none e g (omega arith));
+      all = λ e g l. absurd (let m = C .few in omega arith);
+    }
 
 -- ---- the map as the list of free frames, the highest first
 module _ (n : ℕ) (ps : List Place) (d : List ℕ) (m : FreeMap n ps d) where

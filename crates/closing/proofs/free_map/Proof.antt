@@ -1,31 +1,25 @@
--- `closing::free_map` meets its contract. The loop's invariant: the bits of the frames below `f` are made, and the others are clear.
+-- `closing::free_map` meets its contract. The loop's invariant: the first `i` words are made. The measure is the number of words left.
 use Prim.Native.Nat.{_-_, _≤_}
-use Rattle.places.specs.Map.{Built, built-done, built-none, built-skip, built-store}
+use Rattle.places.specs.Map.{Built, built-done, built-next, built-none}
 use Rattle.sheet.specs.Sheet.{storeOf}
 use borrow.Author.Needs.{needs}
 use Rattle.closing.proofs.free_map.Statement.{statement}
 use Rattle.closing.proofs.free_map.Tie as tie
 
 abbrev Inv-loop : tie.InvT-loop
-Inv-loop sheet frames d₀ f₀ d f = (f ≤ 1024) × Built frames (storeOf sheet .places) f d
+Inv-loop sheet frames d₀ i₀ d i = (i ≤ 16) × Built frames (storeOf sheet .places) i d
 
 abbrev μ-loop : tie.MeasureT-loop
-μ-loop sheet frames d₀ f₀ d f = 1024 - f
+μ-loop sheet frames d₀ i₀ d i = 16 - i
 
 loop-holds : tie.Need-loop-holds Inv-loop μ-loop
-loop-holds c = let a = c .args in (search needs, built-none (a .frames) (storeOf (a .sheet .now) .places))
+loop-holds c = (search needs, built-none (c .args .frames) (storeOf (c .args .sheet .now) .places))
 
-place-requires : tie.Need-place-requires Inv-loop μ-loop
-place-requires c κs = search needs
+mul-map-word : tie.Need-mul-map-word Inv-loop μ-loop
+mul-map-word c = search needs
 
-mul-w : tie.Need-mul-w Inv-loop μ-loop
-mul-w c = search needs
-
-array-read-w : tie.Need-array-read-w Inv-loop μ-loop
-array-read-w c = search needs
-
-shl-d : tie.Need-shl-d Inv-loop μ-loop
-shl-d c = search needs
+map-word-requires : tie.Need-map-word-requires Inv-loop μ-loop
+map-word-requires c κs = search needs
 
 mul-d : tie.Need-mul-d Inv-loop μ-loop
 mul-d c = search needs
@@ -33,37 +27,23 @@ mul-d c = search needs
 array-write-d : tie.Need-array-write-d Inv-loop μ-loop
 array-write-d c = search needs
 
-add-f : tie.Need-add-f Inv-loop μ-loop
-add-f c = search needs
+add-i : tie.Need-add-i Inv-loop μ-loop
+add-i c = search needs
 
 loop-less : tie.Need-loop-less Inv-loop μ-loop
 loop-less c = search needs
 
 loop-again : tie.Need-loop-again Inv-loop μ-loop
 loop-again c =
-    let a = c .before .before .before .before .before .args in
-    let l = c .before .before .before .before .loop in
-    let t = rw (c .before .before .place .ensures) at (c .if1 .taken) in
-    (search needs, built-store (a .frames) (storeOf (a .sheet .now) .places) (l .f) (l .d) (search needs) (l .inv .1) t)
-
-add-f-2 : tie.Need-add-f-2 Inv-loop μ-loop
-add-f-2 c = search needs
-
-loop-less-2 : tie.Need-loop-less-2 Inv-loop μ-loop
-loop-less-2 c = search needs
-
-loop-again-2 : tie.Need-loop-again-2 Inv-loop μ-loop
-loop-again-2 c =
-    let a = c .before .before .before .before .before .args in
-    let l = c .before .before .before .before .loop in
-    let t = rw (c .before .before .place .ensures) at (c .if1 .left) in
-    (search needs, built-skip (a .frames) (storeOf (a .sheet .now) .places) (l .f) (l .d) (l .inv .1) t)
+    let a = c .before .before .before .args in
+    let l = c .before .before .loop in
+    (search needs, built-next (a .frames) (storeOf (a .sheet .now) .places) (l .i) (l .d) _ (search needs) (l .inv .1) (c .map-word .ensures))
 
 returns : tie.Need-returns Inv-loop μ-loop
 returns c =
     let a = c .before .before .args in
     let l = c .before .loop in
-    built-done (a .frames) (storeOf (a .sheet .now) .places) (l .f) (l .d) (search needs) (l .inv .1) (search needs)
+    built-done (a .frames) (storeOf (a .sheet .now) .places) (l .i) (l .d) (search needs) (l .inv .1) (search needs)
 
 pub free-map-spec : {M : Type 1} → statement M
 free-map-spec =
@@ -72,16 +52,11 @@ free-map-spec =
     Inv-loop
     μ-loop
     loop-holds
-    place-requires
-    mul-w
-    array-read-w
-    shl-d
+    mul-map-word
+    map-word-requires
     mul-d
     array-write-d
-    add-f
+    add-i
     loop-less
     loop-again
-    add-f-2
-    loop-less-2
-    loop-again-2
     returns)

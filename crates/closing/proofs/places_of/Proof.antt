@@ -1,4 +1,4 @@
--- `closing::places_of` meets its contract. The loop's invariant: the first `f` places are those of the sheet.
+-- `closing::places_of` meets its contract. The loop's invariant: the first `f` places are those of the sheet, and the others are as they were filled.
 use Rattle.closing.specs.Made.{Made, made-done, made-next, made-none}
 use Prim.Native.Nat.{_-_, _≤_}
 use mathlib.Core.Path.{_≡_, sym, _∙_}
@@ -18,7 +18,7 @@ abbrev μ-loop : tie.MeasureT-loop
 μ-loop sheet d₀ f₀ d f = 1024 - f
 
 loop-holds : tie.Need-loop-holds Inv-loop μ-loop
-loop-holds c = (omega arith, search needs, made-none nowhere _ _)
+loop-holds c = (omega arith, search needs, made-none nowhere _ 1024)
 
 place-requires : tie.Need-place-requires Inv-loop μ-loop
 place-requires c κs = search needs

@@ -1,5 +1,6 @@
--- `closing::ranges_of` meets its contract. The loop's invariant: the first `i` ranges are those of the sheet.
-use Rattle.closing.specs.Made.{Made, made-done, made-next, made-none}
+-- `closing::ranges_of` meets its contract. The loop's invariant: the first `i` ranges are those of the sheet, and the others are zero ranges.
+use Rattle.closing.specs.Closed.{row-zero}
+use Rattle.closing.specs.Made.{Made, made-done, made-next, made-none, made-skip}
 use Prim.Native.Nat.{_-_, _≤_}
 use mathlib.Core.Path.{_≡_, sym, _∙_}
 use lib.ListN.{length, length-set}
@@ -21,7 +22,43 @@ zero-range-requires : tie.Need-zero-range-requires Inv-loop μ-loop
 zero-range-requires c κs = search needs
 
 loop-holds : tie.Need-loop-holds Inv-loop μ-loop
-loop-holds c = (omega arith, search needs, made-none zeroRange _ _)
+loop-holds c = (omega arith, search needs, rw (c .zero-range .ensures) (made-none zeroRange _ 512))
+
+mul-if1 : tie.Need-mul-if1 Inv-loop μ-loop
+mul-if1 c = search needs
+
+element-copy-out-if1 : tie.Need-element-copy-out-if1 Inv-loop μ-loop
+element-copy-out-if1 c = search needs
+
+add-if1 : tie.Need-add-if1 Inv-loop μ-loop
+add-if1 c = search needs
+
+mul-if1-2 : tie.Need-mul-if1-2 Inv-loop μ-loop
+mul-if1-2 c = search needs
+
+element-copy-out-if1-2 : tie.Need-element-copy-out-if1-2 Inv-loop μ-loop
+element-copy-out-if1-2 c = search needs
+
+add-if1-2 : tie.Need-add-if1-2 Inv-loop μ-loop
+add-if1-2 c = search needs
+
+mul-if1-3 : tie.Need-mul-if1-3 Inv-loop μ-loop
+mul-if1-3 c = search needs
+
+element-copy-out-if1-3 : tie.Need-element-copy-out-if1-3 Inv-loop μ-loop
+element-copy-out-if1-3 c = search needs
+
+add-i : tie.Need-add-i Inv-loop μ-loop
+add-i c = search needs
+
+loop-less : tie.Need-loop-less Inv-loop μ-loop
+loop-less c = search needs
+
+loop-again : tie.Need-loop-again Inv-loop μ-loop
+loop-again c =
+    let a = c .before .before .before .before .before .before .before .args in
+    let l = c .before .before .before .before .before .loop in
+    (search needs, l .inv .1, made-skip zeroRange (storeOf (a .sheet .now) .ranges) (l .d) (l .i) (row-zero (a .sheet .now) (l .i) (search needs) (c .if1 .taken)) (l .inv .2))
 
 range-requires : tie.Need-range-requires Inv-loop μ-loop
 range-requires c κs = search needs
@@ -32,16 +69,16 @@ mul-d c = search needs
 array-set-from-d : tie.Need-array-set-from-d Inv-loop μ-loop
 array-set-from-d c = search needs
 
-add-i : tie.Need-add-i Inv-loop μ-loop
-add-i c = search needs
+add-i-2 : tie.Need-add-i-2 Inv-loop μ-loop
+add-i-2 c = search needs
 
-loop-less : tie.Need-loop-less Inv-loop μ-loop
-loop-less c = search needs
+loop-less-2 : tie.Need-loop-less-2 Inv-loop μ-loop
+loop-less-2 c = search needs
 
-loop-again : tie.Need-loop-again Inv-loop μ-loop
-loop-again c =
-    let a = c .before .before .before .before .args in
-    let l = c .before .before .loop in
+loop-again-2 : tie.Need-loop-again-2 Inv-loop μ-loop
+loop-again-2 c =
+    let a = c .before .before .before .before .before .before .before .before .args in
+    let l = c .before .before .before .before .before .before .loop in
     (search needs, simp length-set (l .inv .1), made-next zeroRange (storeOf (a .sheet .now) .ranges) (l .d) (l .i) _ (search needs) (c .range .ensures) (l .inv .2))
 
 returns : tie.Need-returns Inv-loop μ-loop
@@ -58,10 +95,21 @@ ranges-of-spec =
     μ-loop
     zero-range-requires
     loop-holds
-    range-requires
-    mul-d
-    array-set-from-d
+    mul-if1
+    element-copy-out-if1
+    add-if1
+    mul-if1-2
+    element-copy-out-if1-2
+    add-if1-2
+    mul-if1-3
+    element-copy-out-if1-3
     add-i
     loop-less
     loop-again
+    range-requires
+    mul-d
+    array-set-from-d
+    add-i-2
+    loop-less-2
+    loop-again-2
     returns)
