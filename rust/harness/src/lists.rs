@@ -100,6 +100,20 @@ pub fn slots() -> List {
     List { frames: 1024, calls }
 }
 
+/// A copy at unequal places over pages that are present and private. Each takes bytes of two source pages that hold different ones; the last source page is absent.
+pub fn over() -> List {
+    let calls = vec![
+        Call::New(0),
+        Call::New(1),
+        Call::Write(0, P - 6, (1..=20).collect()),
+        Call::Write(0, 2 * P - 6, (21..=40).collect()),
+        Call::Write(1, P - 1, vec![1, 2]),
+        Call::Write(1, 2 * P + 1000, vec![3]),
+        Call::Copy(0, 4000, 1, 100, 3 * P - 100),
+    ];
+    List { frames: 8, calls }
+}
+
 /// Random numbers from a seed (splitmix64).
 pub struct Random(u64);
 

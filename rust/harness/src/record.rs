@@ -7,7 +7,7 @@ use crate::call::{Call, List};
 use crate::compare::Said;
 use crate::differences;
 use crate::judge::refusal;
-use crate::lists::{random_small, starts, stock};
+use crate::lists::{over, random_small, starts, stock};
 use crate::mend::{Struck, mend, mended};
 use crate::rust_side::Rust;
 use crate::view::{ObjectView, View};
@@ -82,7 +82,7 @@ fn tags(list: &List) -> Vec<Tag> {
     out
 }
 
-/// The differences' own lists but the long one, lists of the stock, and random lists, as far as they show something new.
+/// The differences' own lists but the long one; lists of the stock, and random lists, as far as they show something new; and a copy over private pages.
 fn chosen() -> Vec<List> {
     let mut all: Vec<List> = differences::lists().into_iter().filter(|l| l.calls.len() < 20).collect();
     let mut seen: BTreeSet<Tag> = all.iter().flat_map(tags).collect();
@@ -103,6 +103,7 @@ fn chosen() -> Vec<List> {
         list.calls.truncate(end.unwrap() + 1);
         all.push(list);
     }
+    all.push(over());
     all
 }
 
