@@ -3,13 +3,13 @@
 ghost use mathlib.Core.Path.{_≡_};
 ghost use Prim.Native.Nat.{_≤_};
 ghost use lib.ListN.{drop, length, replicate, take};
-ghost use Rattle.chains.specs.Chains.{Chained};
+ghost use Rattle.chains.specs.Chains.{Chained, keyed};
 
 // The chains of the first n entries, by their keys: in the first 1,024 numbers where each chain begins, at its last entry, and behind them where each entry's
 // chain goes on.
 pub fn link(keys: &[u64], n: usize, links: &mut [u16; 2048])
     requires { ⌜ (n ≤ 1024) × (n ≤ length (now keys)) × (now links ≡ replicate 2048 0) ⌝ }
-    ensures { λ _. ⌜ (Chained (now (keys .entry)) n (take 1024 (now (links .exit))) (drop 1024 (now (links .exit)))) × (length (now (links .exit)) ≡ 2048) ⌝ }
+    ensures { λ _. ⌜ (Chained (keyed (now (keys .entry))) n (take 1024 (now (links .exit))) (drop 1024 (now (links .exit)))) × (length (now (links .exit)) ≡ 2048) ⌝ }
 {
     let mut i: usize = 0;
     while i < n {

@@ -8,7 +8,7 @@ use native.Mathlib.Omega.{arith}
 use lib.Dec.{eqb, ltb}
 use lib.ListN.{drop, getD, length, take}
 use lib.Seq.{getD-drop, getD-take, length-take-le}
-use borrow.Author.Tests.{eq-eqb, eqb-true, ltb-true, ne-eqb}
+use borrow.Author.Tests.{eq-eqb, eqb-true, ltb-true}
 use Rattle.frames.specs.declared.Frame.{Frame}
 use Rattle.frames.specs.declared.Frame.the-variants.{At, Nothing}
 use Rattle.places.specs.declared.Place.{Place}
@@ -19,7 +19,7 @@ use Rattle.places.specs.Places.{frameAt, nowhere, placeAt, standsAt}
 use Rattle.places.specs.Found.{FirstAt, frame-found, frame-none}
 use Rattle.chains.specs.Chains.{inChain}
 use Rattle.chains.specs.Walk.{Walk, walk-all, walk-less, walk-next}
-use Rattle.sound_places.specs.Alone.{keyOf, SpotChains}
+use Rattle.sound_places.specs.Alone.{SpotChains, chain-used, chainAt, chainOf}
 use Rattle.table.specs.Table.{Table}
 use Rattle.store.specs.Sound.{Sound}
 use Rattle.store.specs.Good.{sound-table}
@@ -122,21 +122,17 @@ module _ (w l : List ℕ) (b i : ℕ) (C : Framed w l) (few : storeOf w .frames 
   -- a frame outside of the chain of that place stands elsewhere
   pub walk-frames : Walk (drop 1024 l) (lacks (storeOf w .places) b i) n (getD l ((b * 633 + i) % 1024) 0)
   walk-frames =
-      let D = C .chains in
-      let h : ℕ = (b * 633 + i) % 1024 in
       rw (← getD-take 1024 l h 0 (omega arith))
-      (walk-all (D .keys) (take 1024 l) (drop 1024 l) n (D .chained) (lacks (storeOf w .places) b i) h (omega arith) other)
+      (walk-all (chainAt (drop 1536 w)) (take 1024 l) (drop 1024 l) n (C .chains) (lacks (storeOf w .places) b i) h (omega arith) other)
     where
       h : ℕ
       h = (b * 633 + i) % 1024
 
-      met : (x k : ℕ) → 0 < x / 4294967296 % 4294967296 → x / 4294967296 % 4294967296 ≡ b → x % 4294967296 ≡ i → keyOf x k % 1024 ≡ h
-      met x k u p q =
-          let z : eqb (x / 4294967296) 0 ≡ false = ne-eqb (x / 4294967296) 0 (λ e. omega arith) in
-          rw (z, q) (same-chain (x / 4294967296) b i p)
+      met : (x : ℕ) → 0 < x / 4294967296 % 4294967296 → x / 4294967296 % 4294967296 ≡ b → x % 4294967296 ≡ i → chainOf x ≡ h
+      met x u p q = chain-used x (λ e. omega arith) ∙ rw q (same-chain (x / 4294967296) b i p)
 
       -- a frame that stands there is in the chain
-      chained : (j : ℕ) → j < n → standsAt b i (placeAt (storeOf w .places) j) ≡ true → inChain (C .chains .keys) h j ≡ true
+      chained : (j : ℕ) → j < n → standsAt b i (placeAt (storeOf w .places) j) ≡ true → inChain (chainAt (drop 1536 w)) h j ≡ true
       chained j u t =
           let x : ℕ = getD w (1536 + j) 0 in
           let e : placeAt (storeOf w .places) j ≡ spotted x = sym (place-read w j (omega arith)) in
@@ -144,15 +140,14 @@ module _ (w l : List ℕ) (b i : ℕ) (C : Framed w l) (few : storeOf w .frames 
           let B : Bool = eqb (x / 4294967296 % 4294967296) b in
           let I : Bool = eqb (x % 4294967296) i in
           let r : (B && I) ≡ true = and-right (ltb 0 (x / 4294967296 % 4294967296)) (B && I) s in
-          let k : getD (C .chains .keys) j 0 ≡ keyOf x j = C .chains .filled .each j u ∙ ap (λ (y : ℕ). keyOf y j) (getD-drop 1536 w j 0) in
-          eq-eqb (getD (C .chains .keys) j 0 % 1024) h
-          (ap (λ (y : ℕ). y % 1024) k
-          ∙ met x j
+          eq-eqb (chainAt (drop 1536 w) j) h
+          (ap chainOf (getD-drop 1536 w j 0)
+          ∙ met x
           (ltb-true 0 (x / 4294967296 % 4294967296) (and-left (ltb 0 (x / 4294967296 % 4294967296)) (B && I) s))
           (eqb-true (x / 4294967296 % 4294967296) b (and-left B I r))
           (eqb-true (x % 4294967296) i (and-right B I r)))
 
-      other : (j : ℕ) → j < n → inChain (C .chains .keys) h j ≡ false → lacks (storeOf w .places) b i j ≡ true
+      other : (j : ℕ) → j < n → inChain (chainAt (drop 1536 w)) h j ≡ false → lacks (storeOf w .places) b i j ≡ true
       other j u o =
           by-test (standsAt b i (placeAt (storeOf w .places) j)) (λ t. absurd (false≢true (sym o ∙ chained j u t))) (λ t. ap not t)
 

@@ -27,7 +27,7 @@ use Rattle.places.specs.Places.{frameAt}
 use Rattle.store.specs.Abs.{used}
 use Rattle.store.specs.Located as there
 use Rattle.look.specs.Look.{indexIn, inFrame, inFound, located, sharedIn}
-use Rattle.chains.specs.Chains.{Chained, inChain, last-same}
+use Rattle.chains.specs.Chains.{Chained, inChain, keyed, last-same}
 use Rattle.chains.specs.Walk.{Along, along-at, along-less, along-next, along-same}
 use Rattle.sheet.specs.Sheet.{backingOf, rangeAt, storeOf}
 use Rattle.sheet.specs.Edits.{range-read, storeOf-sized}
@@ -35,11 +35,11 @@ use Rattle.seek.specs.Framed.{behind}
 
 -- the chains of a sheet's ranges, by their backings
 pub record Held (w h : List ℕ) : Type 0 where
-  pub chains : Chained (take 512 (drop 1024 w)) (storeOf w .count) (take 1024 h) (drop 1024 h)
+  pub chains : Chained (keyed (take 512 (drop 1024 w))) (storeOf w .count) (take 1024 h) (drop 1024 h)
 
 -- the walk along the chain of backing b is at link k, with n holders met
 pub record Meets (w h : List ℕ) (b n k : ℕ) : Type 0 where
-  pub along : Along (take 512 (drop 1024 w)) (b % 1024) (drop 1024 h) (storeOf w .count) k
+  pub along : Along (keyed (take 512 (drop 1024 w))) (b % 1024) (drop 1024 h) (storeOf w .count) k
   pub met : n ≡ holders b (left (storeOf w .ranges) (storeOf w .count) k)
 
 -- a kind with a number: that stands below 32 bits, so that 1,024 divides what stands above
@@ -69,12 +69,12 @@ module _ (w h : List ℕ) (b : ℕ) (few : storeOf w .count ≤ 512) (p : 0 < b)
   number-at j l = ap (λ (r : PageRange). numberOf (r .backing)) (range-read w j (omega arith))
 
   -- a range of another chain does not hold it
-  other : (j : ℕ) → j < n → inChain (take 512 (drop 1024 w)) (b % 1024) j ≡ false → from (suc j) ≡ from j
+  other : (j : ℕ) → j < n → inChain (keyed (take 512 (drop 1024 w))) (b % 1024) j ≡ false → from (suc j) ≡ from j
   other j l o =
       rw (← add-one)
       (sym (holders-miss R n full b j (numberOf (backingOf (getD w (1024 + j) 0))) l (number-at j l) (λ e. false≢true (sym o ∙ inside e))))
     where
-      inside : b ≡ numberOf (backingOf (getD w (1024 + j) 0)) → inChain (take 512 (drop 1024 w)) (b % 1024) j ≡ true
+      inside : b ≡ numberOf (backingOf (getD w (1024 + j) 0)) → inChain (keyed (take 512 (drop 1024 w))) (b % 1024) j ≡ true
       inside e =
           let t : getD (take 512 (drop 1024 w)) j 0 ≡ getD w (1024 + j) 0 = getD-take 512 (drop 1024 w) j 0 (omega arith) ∙ getD-drop 1024 w j 0 in
           eq-eqb (getD (take 512 (drop 1024 w)) j 0 % 1024) (b % 1024) (ap (λ (x : ℕ). x % 1024) t ∙ number-low (getD w (1024 + j) 0) b p e)
@@ -84,8 +84,8 @@ module _ (w h : List ℕ) (b : ℕ) (few : storeOf w .count ≤ 512) (p : 0 < b)
       let C = H .chains in
       let e = sym (getD-take 1024 h (b % 1024) 0 (omega arith)) ∙ C .heads (b % 1024) (omega arith) in
       record {
-        along = along-at (take 512 (drop 1024 w)) (b % 1024) (drop 1024 h) n n (getD h (b % 1024) 0) (C .next) (le-refl n) e;
-        met = sym (ap from e ∙ last-same (inChain (take 512 (drop 1024 w)) (b % 1024)) from n other ∙ holders-end R n full b n (le-refl n));
+        along = along-at (keyed (take 512 (drop 1024 w))) (b % 1024) (drop 1024 h) n n (getD h (b % 1024) 0) (C .next) (omega arith) (le-refl n) e;
+        met = sym (ap from e ∙ last-same (inChain (keyed (take 512 (drop 1024 w))) (b % 1024)) from n other ∙ holders-end R n full b n (le-refl n));
       }
 
   -- no more from a later number on
@@ -104,17 +104,17 @@ module _ (w h : List ℕ) (b : ℕ) (few : storeOf w .count ≤ 512) (p : 0 < b)
         let q : 1023 + k ≡ 1024 + (k - 1) = omega arith in
         e ∙ ap (λ (j : ℕ). numberOf (backingOf (getD w j 0))) q ∙ number-at (k - 1) (omega arith)
 
-    next : Along (take 512 (drop 1024 w)) (b % 1024) (drop 1024 h) n (getD h (1023 + k) 0)
-    next = rw (behind h k u) at (along-next (take 512 (drop 1024 w)) (b % 1024) (drop 1024 h) n k (M .along) u)
+    next : Along (keyed (take 512 (drop 1024 w))) (b % 1024) (drop 1024 h) n (getD h (1023 + k) 0)
+    next = rw (behind h k u) at (along-next (keyed (take 512 (drop 1024 w))) (b % 1024) (drop 1024 h) n k (M .along) u)
 
     same : from (getD h (1023 + k) 0) ≡ from (k - 1)
-    same = rw (behind h k u) at (along-same (take 512 (drop 1024 w)) (b % 1024) (drop 1024 h) n k (M .along) u from other)
+    same = rw (behind h k u) at (along-same (keyed (take 512 (drop 1024 w))) (b % 1024) (drop 1024 h) n k (M .along) u from other)
 
     here : k - 1 + 1 ≡ k
     here = omega arith
 
     pub meets-less : getD h (1023 + k) 0 < k
-    meets-less = rw (behind h k u) at (along-less (take 512 (drop 1024 w)) (b % 1024) (drop 1024 h) n k (M .along) u)
+    meets-less = rw (behind h k u) at (along-less (keyed (take 512 (drop 1024 w))) (b % 1024) (drop 1024 h) n k (M .along) u)
 
     one : b ≡ x → from (k - 1) ≡ suc m
     one q = let l = M .along .low in rw here at (holders-hit R n full b (k - 1) x (omega arith) number q) ∙ ap suc (sym (M .met))

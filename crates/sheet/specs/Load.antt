@@ -8,7 +8,7 @@ use lib.ListN.{getD, length, length-set, set}
 use lib.Seq.{ext-getD, getD-set-other, getD-set-same}
 use Rattle.table.specs.declared.PageRange.{PageRange}
 use Rattle.places.specs.declared.Place.{Place}
-use Rattle.lists.specs.Test.{by-eq}
+use Rattle.lists.specs.Test.{by-eq, by-lt}
 use Rattle.lists.specs.Listed.{listed, getD-listed, length-listed, listed-ext}
 use Rattle.table.specs.Table.{zeroRange}
 use Rattle.places.specs.Places.{nowhere, placeAt}
@@ -34,6 +34,9 @@ kept-set a e w v k x K l m = record {
   below = λ j h. getD-set-other v k j x 0 (λ q. omega arith) ∙ K .below j h;
   above = λ j h. getD-set-other v k j x 0 (λ q. omega arith) ∙ K .above j h;
 }
+
+pub kept-then : (a e : ℕ) (w u v : List ℕ) → Kept a e w u → Kept a e u v → Kept a e w v
+kept-then a e w u v K L = record { below = λ k h. L .below k h ∙ K .below k h; above = λ k h. L .above k h ∙ K .above k h }
 
 -- ---- places: the numbers of the first n frames tell where they stand
 pub record Spots (ps : List Place) (n : ℕ) (w : List ℕ) : Type 0 where
@@ -125,6 +128,54 @@ module _ (l : List PageRange) (w : List ℕ) (n : ℕ) (long : length w ≡ 2579
     below = λ k h. absurd (not-suc-le-zero h);
     above = λ k h. other k (λ q. omega arith) (λ q. omega arith) (λ q. omega arith) ∙ K .above k h;
   }
+
+narrow-zero : Narrow zeroRange
+narrow-zero = record { object = omega arith; start = omega arith; length = omega arith; offset = omega arith; backing = omega arith }
+
+-- ---- numbers set to 0: those from a up to e, and no other
+pub record Cleared (a e : ℕ) (w v : List ℕ) : Type 0 where
+  pub zeros : (k : ℕ) → a ≤ k → k < e → getD v k 0 ≡ 0
+  pub kept : Kept a e w v
+  pub long : length v ≡ 2579
+
+pub cleared-none : (a : ℕ) (w : List ℕ) → length w ≡ 2579 → Cleared a a w w
+cleared-none a w long = record { zeros = λ k h l. omega arith; kept = kept-same a a w; long = long }
+
+pub cleared-next : (a i : ℕ) (w v : List ℕ) → a ≤ i → i < 2579 → Cleared a i w v → Cleared a (i + 1) w (set v i 0)
+cleared-next a i w v h l C = record {
+  zeros = λ k p q. by-eq k i (λ e. rw e (getD-set-same v i 0 0 (omega arith))) (λ e. getD-set-other v i k 0 0 e ∙ C .zeros k p (omega arith));
+  kept = record {
+    below = λ k p. getD-set-other v i k 0 0 (λ q. omega arith) ∙ C .kept .below k p;
+    above = λ k p. getD-set-other v i k 0 0 (λ q. omega arith) ∙ C .kept .above k (omega arith);
+  };
+  long = simp length-set (C .long);
+}
+
+-- slots from n on set to zero: a table that is zero from there on is in the sheet if its slots before are
+pub record Emptied (n : ℕ) (w v : List ℕ) : Type 0 where
+  pub rows : (l : List PageRange) → ((i : ℕ) → n ≤ i → i < 512 → getD l i zeroRange ≡ zeroRange) → Rows l n w → Rows l 512 v
+  pub kept : Kept 0 1536 w v
+  pub long : length v ≡ 2579
+
+pub emptied : (n : ℕ) (w x y v : List ℕ) → n ≤ 512 → Cleared n 512 w x → Cleared (512 + n) 1024 x y → Cleared (1024 + n) 1536 y v → Emptied n w v
+emptied n w x y v few A B C = record {
+  rows = λ l z R. record {
+    line = λ i h. C .kept .below i (omega arith) ∙ B .kept .below i (omega arith) ∙ by-lt i n (λ p. A .kept .below i p ∙ R .line i p) (λ p. rw (z i p h) (A .zeros i p h));
+    span = λ i h.
+        C .kept .below (512 + i) (omega arith)
+        ∙ by-lt i n (λ p. B .kept .below (512 + i) (omega arith) ∙ A .kept .above (512 + i) (omega arith) ∙ R .span i p) (λ p. rw (z i p h) (B .zeros (512 + i) (omega arith) (omega arith)));
+    tag = λ i h.
+        by-lt i n
+        (λ p. C .kept .below (1024 + i) (omega arith) ∙ B .kept .above (1024 + i) (omega arith) ∙ A .kept .above (1024 + i) (omega arith) ∙ R .tag i p)
+        (λ p. rw (z i p h) (C .zeros (1024 + i) (omega arith) (omega arith)));
+    narrow = λ i h. by-lt i n (λ p. R .narrow i p) (λ p. rw (z i p h) narrow-zero);
+  };
+  kept = record {
+    below = λ k h. absurd (not-suc-le-zero h);
+    above = λ k h. C .kept .above k h ∙ B .kept .above k (omega arith) ∙ A .kept .above k (omega arith);
+  };
+  long = C .long;
+}
 
 rows-told : (l : List PageRange) (w : List ℕ) → length l ≡ 512 → Rows l 512 w → storeOf w .ranges ≡ l
 unfolding storeOf

@@ -12,12 +12,12 @@ use places::Place;
 use table::BackingPages;
 use table::PageRange;
 ghost use mathlib.Core.Path.{_≡_};
-ghost use Prim.Native.Nat.{_+_, _≤_, _<_};
-ghost use lib.ListN.{getD, length, set};
+ghost use Prim.Native.Nat.{_+_, _-_, _≤_, _<_};
+ghost use lib.ListN.{length, set};
 ghost use Rattle.table.specs.Table.{numberOf};
 ghost use Rattle.places.specs.Places.{placeAt};
 ghost use Rattle.sheet.specs.Edits.{Narrow};
-ghost use Rattle.sheet.specs.Load.{Spots};
+ghost use Rattle.sheet.specs.Load.{Cleared, Emptied, Spots};
 ghost use Rattle.sheet.specs.Sheet.{backingOf, rangeAt, rowSet, spotNumber, spotted, storeOf, tagOf, withCount, withFrames, withFree, withLive, withPlace, withPlaces, withRange, withWord, wordAt};
 
 // How many numbers a sheet has.
@@ -74,6 +74,28 @@ pub fn set_range(sheet: &mut [u64; 2579], i: usize, r: PageRange)
     sheet[i] = (r.object as u64) * 262144 + (r.start.0 as u64);
     sheet[512 + i] = (r.offset as u64) * 4294967296 + (r.length as u64);
     sheet[1024 + i] = x;
+}
+
+// The numbers from `first` up to `end` set to 0.
+fn clear(sheet: &mut [u64; 2579], first: usize, end: usize)
+    requires { ⌜ (length (now sheet) ≡ 2579) × (first ≤ end) × (end ≤ 2579) ⌝ }
+    ensures { λ _. ⌜ Cleared first end (now (sheet .entry)) (now (sheet .exit)) ⌝ }
+{
+    let mut i = first;
+    while i < end {
+        sheet[i] = 0;
+        i += 1;
+    }
+}
+
+// The slots of the table from a slot on set to zero.
+pub fn clear_rows(sheet: &mut [u64; 2579], from: usize)
+    requires { ⌜ (length (now sheet) ≡ 2579) × (from ≤ 512) ⌝ }
+    ensures { λ _. ⌜ Emptied from (now (sheet .entry)) (now (sheet .exit)) ⌝ }
+{
+    clear(sheet, from, 512);
+    clear(sheet, 512 + from, 1024);
+    clear(sheet, 1024 + from, 1536);
 }
 
 // Where frame f stands.

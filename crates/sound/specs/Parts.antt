@@ -6,7 +6,7 @@ use Prim.Native.Nat.{ℕ, _+_, _/_, _%_, _≤_, _<_, max}
 use native.Mathlib.Omega.{arith}
 use lib.Dec.{ltb, leb, eqb}
 use lib.ListN.{length, length-drop, take, drop, getD}
-use lib.Seq.{getD-drop, getD-take, length-take-le, take-all}
+use lib.Seq.{getD-take, length-take-le}
 use borrow.Author.Tests.{leb-true}
 use Rattle.table.specs.declared.PageRange.{PageRange}
 use Rattle.table.specs.declared.BackingPages.{BackingPages}
@@ -17,7 +17,7 @@ use Rattle.lists.specs.Test.{and-left, by-test}
 use Rattle.lists.specs.Every.{allBelow, both-true, every}
 use Rattle.table.specs.Table.{numberOf, rangesOf, zeroRange}
 use Rattle.places.specs.Places.{placeAt}
-use Rattle.chains.specs.Chains.{Chained}
+use Rattle.chains.specs.Chains.{Chained, chained-alike, keyed}
 use Rattle.columns.specs.Columns.{spotOf, spots-done, spotted}
 use Rattle.columns.specs.Ranges.{Tag, Tags, Spans, span-told, tag-many, tag-nothing, tag-single}
 use Rattle.sheet.specs.Sheet.{spanNumber, storeOf, tagOf, withCount, withFrames, withFree, withLive, withPlaces, withRanges}
@@ -26,11 +26,12 @@ use Rattle.store.specs.Abs.{used, liveBit}
 use Rattle.store.specs.Sound.{Sized, alike, alone?, bit?, counts?, fine?, idle?, kind?, places?, ranges?, rising?, sound?, stands?, window?, zero?}
 use Rattle.sound_ranges.specs.Agree.{alikeTo, agree-told, every-at}
 use Rattle.sound_ranges.specs.Slots.{slots?, Loaded}
-use Rattle.sound_ranges.specs.Shape.{shaped?, shapedKind?, shaped-number, rises?, rises-parts}
-use Rattle.sound_places.specs.Bits.{below-both}
-use Rattle.sound_places.specs.Alone.{keyOf, SpotChains}
+use Rattle.sound_ranges.specs.Shape.{shaped?, shapedKind?, shaped-number, shaped-short, rises?, rises-parts}
+use Rattle.sound_places.specs.Bits.{below-both, kept?}
+use Rattle.sound_places.specs.Alone.{SpotChains, chainAt, chainOf}
 use Rattle.sound_places.specs.Seats.{seated?, seatedAt, seated-told}
 use Rattle.sound_places.specs.Windows.{walked?, walks-windows}
+use Rattle.sound_places.specs.Words.{Short, placedAt?, span-word, spansOf, spot-word, spotsOf, tag-word, tagsOf}
 
 -- ---- the two parts of the test of a range
 module _ (live n : ℕ) (ps : List Place) where
@@ -102,16 +103,7 @@ module _ (s : Store) where
       sort true true true true e = refl
       sort true true true false e = refl
 
--- ---- the parts of a sheet that the tests go through
-abbrev pub tagsOf : List ℕ → List ℕ
-tagsOf w = take 512 (drop 1024 w)
-
-abbrev pub spansOf : List ℕ → List ℕ
-spansOf w = take 512 (drop 512 w)
-
-abbrev pub spotsOf : List ℕ → List ℕ
-spotsOf w = take 1024 (drop 1536 w)
-
+-- ---- the tests of a sheet
 -- range i has a backing with a number
 abbrev pub Numbered : List ℕ → ℕ → Type 0
 Numbered w i = 0 < getD (tagsOf w) i 0 % 4294967296
@@ -127,21 +119,16 @@ pub record Told (s : Store) (w : List ℕ) : Type 0 where
 pub record Chains (w : List ℕ) (n : ℕ) (h : List ℕ) : Type 0 where
   pub long : length w ≡ 2579
   pub heads : length h ≡ 2048
-  pub chained : Chained (tagsOf w) n (take 1024 h) (drop 1024 h)
+  pub chained : Chained (keyed (tagsOf w)) n (take 1024 h) (drop 1024 h)
   pub numbers : (i : ℕ) → i < n → Numbered w i
 
 -- the tests, of a sheet
 unfoldable pub agreeing? : List ℕ → ℕ → Bool
 agreeing? w n = allBelow (λ i. allBelow (alikeTo (tagsOf w) i) i) n
 
-unfoldable pub resting? : ℕ → ℕ → List ℕ → List ℕ → List ℕ → Bool
-resting? m n ws w h =
-    allBelow (λ f. idle? m f (placeAt (spotted (spotsOf w)) f) && bit? m (spotted (spotsOf w)) ws f) 1024
-    && (allBelow (seatedAt (tagsOf w) (spotted (spotsOf w)) m) n
-    && allBelow (λ f. walked? (tagsOf w) (spansOf w) (take 1024 h) (placeAt (spotted (spotsOf w)) f)) m)
-
 unfoldable pub placed? : ℕ → ℕ → List ℕ → List ℕ → List ℕ → Bool
-placed? m n ws w h = allBelow (alone? (spotted (spotsOf w))) m && resting? m n ws w h
+placed? m n ws w h =
+    allBelow (kept? m (spotsOf w) ws) 1024 && (allBelow (placedAt? w h) m && allBelow (seatedAt (tagsOf w) (spotted (spotsOf w)) m) n)
 
 -- what the tests of a sheet say
 pub record Tested (m n : ℕ) (ws w : List ℕ) (q : Bool) (h l : List ℕ) : Type 0 where
@@ -163,7 +150,7 @@ module _ (s : Store) (m : s .count ≤ length (s .ranges)) (ts : List ℕ) (T : 
       let q : shaped? (s .live) (getD (s .ranges) i zeroRange) ≡ true = every-at (shaped? (s .live)) (s .ranges) zeroRange (s .count) m a i l in
       omega (arith, T .each i l .number, shaped-number (s .live) (getD (s .ranges) i zeroRange) q)
 
-  pub places-told : (xs hs ns ss : List ℕ) → Spans (s .ranges) (s .count) xs → Chained ts (s .count) hs ns → spotted ss ≡ s .places → (a b d e : Bool)
+  pub places-told : (xs hs ns ss : List ℕ) → Spans (s .ranges) (s .count) xs → Chained (keyed ts) (s .count) hs ns → spotted ss ≡ s .places → (a b d e : Bool)
       → a ≡ allBelow (λ f. idle? (s .frames) f (placeAt (spotted ss) f) && bit? (s .frames) (spotted ss) (s .free) f) 1024
       → b ≡ allBelow (alone? (spotted ss)) (s .frames) → d ≡ allBelow (seatedAt ts (spotted ss) (s .frames)) (s .count)
       → e ≡ allBelow (λ f. walked? ts xs hs (placeAt (spotted ss) f)) (s .frames) → (a && (b && (d && e))) ≡ placeTests s
@@ -204,13 +191,10 @@ module _ (s : Store) (m : s .count ≤ length (s .ranges)) (ts : List ℕ) (T : 
 -- ---- a store in its sheet: its parts are columns of the store
 module _ (s : Store) (w : List ℕ) (T : Told s w) where
   tag-at : (i : ℕ) → i < 512 → getD (tagsOf w) i 0 ≡ tagOf (getD (s .ranges) i zeroRange .backing)
-  tag-at i h = getD-take 512 (drop 1024 w) i 0 h ∙ getD-drop 1024 w i 0 ∙ T .rows .tag i h
+  tag-at i h = tag-word w i h ∙ T .rows .tag i h
 
   span-at : (i : ℕ) → i < 512 → getD (spansOf w) i 0 ≡ spanNumber (getD (s .ranges) i zeroRange)
-  span-at i h = getD-take 512 (drop 512 w) i 0 h ∙ getD-drop 512 w i 0 ∙ T .rows .span i h
-
-  spot-word : (f : ℕ) → f < 1024 → getD (spotsOf w) f 0 ≡ getD w (1536 + f) 0
-  spot-word f h = getD-take 1024 (drop 1536 w) f 0 h ∙ getD-drop 1536 w f 0
+  span-at i h = span-word w i h ∙ T .rows .span i h
 
   tag-told : (k : BackingPages) → numberOf k < 4294967296 → Tag k (tagOf k)
   tag-told Nothing h = tag-nothing Nothing refl
@@ -233,15 +217,12 @@ module _ (s : Store) (w : List ℕ) (T : Told s w) where
           let n = T .spots .number f h in
           let p = ap (λ (q : Place). q .index) (T .spots .place f h) in
           let b : getD w (1536 + f) 0 / 4294967296 ≡ placeAt (s .places) f .backing = omega arith in
-          rw (spot-word f h) (λ j. record { backing = b j; index = p j })
+          rw (spot-word w f h) (λ j. record { backing = b j; index = p j })
 
   -- frames chained by the words of the sheet
   pub sheet-framed : (n : ℕ) (l : List ℕ) → n ≤ 1024 → SpotChains (spotsOf w) n (take 1024 l) (drop 1024 l) → SpotChains (drop 1536 w) n (take 1024 l) (drop 1024 l)
-  sheet-framed n l m C = record {
-    keys = C .keys;
-    filled = record { each = λ f h. C .filled .each f h ∙ ap (λ (x : ℕ). keyOf x f) (getD-take 1024 (drop 1536 w) f 0 (omega arith)) };
-    chained = C .chained;
-  }
+  sheet-framed n l m C =
+      chained-alike (chainAt (spotsOf w)) (chainAt (drop 1536 w)) n (take 1024 l) (drop 1024 l) (λ f h. ap chainOf (getD-take 1024 (drop 1536 w) f 0 (omega arith))) C
 
 module _ (s : Store) where
   pub counts-says : counts? s ≡ true → (s .frames ≤ 1024) × (s .count ≤ 512)
@@ -263,38 +244,20 @@ module _ (s : Store) where
   unfolding sound?
   sound-ranges a h e p = rw (h, ← tests-parts s, ← p, e)
 
--- ---- lengths of the parts
-module _ (w : List ℕ) (long : length w ≡ 2579) where
-  pub tags-long : length (tagsOf w) ≡ 512
-  tags-long = length-take-le 512 (drop 1024 w) (simp length-drop (omega arith))
-
-  pub spans-long : length (spansOf w) ≡ 512
-  spans-long = length-take-le 512 (drop 512 w) (simp length-drop (omega arith))
-
-  pub lines-long : length (take 512 w) ≡ 512
-  lines-long = length-take-le 512 w (omega arith)
-
-  pub spots-long : length (spotsOf w) ≡ 1024
-  spots-long = length-take-le 1024 (drop 1536 w) (simp length-drop (omega arith))
-
-module _ (l : List ℕ) (long : length l ≡ 2048) where
-  pub next-all : take 1024 (drop 1024 l) ≡ drop 1024 l
-  next-all = take-all 1024 (drop 1024 l) (simp length-drop (omega arith))
-
-  pub heads-long : length (take 1024 l) ≡ 1024
-  heads-long = length-take-le 1024 l (omega arith)
-
-  pub next-long : length (take 1024 (drop 1024 l)) ≡ 1024
-  next-long = length-take-le 1024 (drop 1024 l) (simp length-drop (omega arith))
-
 -- ---- the tests put together
-pub placed-none : (m n : ℕ) (ws w h : List ℕ) → allBelow (alone? (spotted (spotsOf w))) m ≡ false → false ≡ placed? m n ws w h
-unfolding placed?
-placed-none m n ws w h e = rw e
+module _ (m n : ℕ) (ws w h : List ℕ) where
+  pub placed-none : allBelow (kept? m (spotsOf w) ws) 1024 ≡ false → false ≡ placed? m n ws w h
+  unfolding placed?
+  placed-none e = rw e
 
-pub placed-rest : (m n : ℕ) (ws w h : List ℕ) (q : Bool) → allBelow (alone? (spotted (spotsOf w))) m ≡ true → q ≡ resting? m n ws w h → q ≡ placed? m n ws w h
-unfolding placed?
-placed-rest m n ws w h q e p = rw e p
+  module _ (e : allBelow (kept? m (spotsOf w) ws) 1024 ≡ true) where
+    pub placed-some : allBelow (placedAt? w h) m ≡ false → false ≡ placed? m n ws w h
+    unfolding placed?
+    placed-some q = rw (e, q)
+
+    pub placed-rest : (q : Bool) → allBelow (placedAt? w h) m ≡ true → q ≡ allBelow (seatedAt (tagsOf w) (spotted (spotsOf w)) m) n → q ≡ placed? m n ws w h
+    unfolding placed?
+    placed-rest q p r = rw (e, p) r
 
 module _ (s : Store) where
   slots-parts : slots? (s .live) (s .ranges) (s .count) 0 0 ≡ (rises? (s .live) 0 (used s) && rest? s)
@@ -317,6 +280,14 @@ module _ (s : Store) where
     pub slots-numbers : slots? (s .live) (s .ranges) (s .count) 0 0 ≡ true → (i : ℕ) → i < s .count → Numbered w i
     slots-numbers h = numbers-told s m (tagsOf w) (sheet-tags s w T few) (and-left (rises? (s .live) 0 (used s)) _ (sym slots-parts ∙ h))
 
+    pub slots-short : slots? (s .live) (s .ranges) (s .count) 0 0 ≡ true → (i : ℕ) → i < s .count → Short w i
+    slots-short h i l =
+        let a : every (shaped? (s .live)) (used s) ≡ true =
+        and-left _ _ (sym (rises-parts (s .live) 0 (used s)) ∙ and-left (rises? (s .live) 0 (used s)) _ (sym slots-parts ∙ h)) in
+        let q : shaped? (s .live) (getD (s .ranges) i zeroRange) ≡ true = every-at (shaped? (s .live)) (s .ranges) zeroRange (s .count) m a i l in
+        let X = sheet-spans s w T few .each i l in
+        omega (arith, X .offset, X .length, shaped-short (s .live) (getD (s .ranges) i zeroRange) q)
+
     slots-agree : slots? (s .live) (s .ranges) (s .count) 0 0 ≡ true → agreeing? w (s .count) ≡ rangeTests s
     unfolding rangeTests agreeing?
     slots-agree h =
@@ -329,20 +300,24 @@ module _ (s : Store) where
             unit true = refl
             unit false = refl
 
-    placed-told : (hs : List ℕ) → Chained (tagsOf w) (s .count) (take 1024 hs) (drop 1024 hs)
+    placed-told : (hs : List ℕ) → Chained (keyed (tagsOf w)) (s .count) (take 1024 hs) (drop 1024 hs)
         → placed? (s .frames) (s .count) (s .free) w hs ≡ placeTests s
-    unfolding placed? resting?
+    unfolding placed?
     placed-told hs C =
-        swap (allBelow (alone? (spotted (spotsOf w))) (s .frames))
-        (allBelow (λ f. idle? (s .frames) f (placeAt (spotted (spotsOf w)) f) && bit? (s .frames) (spotted (spotsOf w)) (s .free) f) 1024)
-        (allBelow (seatedAt (tagsOf w) (spotted (spotsOf w)) (s .frames)) (s .count)
-        && allBelow (λ f. walked? (tagsOf w) (spansOf w) (take 1024 hs) (placeAt (spotted (spotsOf w)) f)) (s .frames))
+        ap (λ (q : Bool). allBelow (kept? (s .frames) (spotsOf w) (s .free)) 1024 && (q && allBelow (seatedAt (tagsOf w) (spotted (spotsOf w)) (s .frames)) (s .count)))
+        (below-both (alone? (spotted (spotsOf w))) (λ f. walked? (tagsOf w) (spansOf w) (take 1024 hs) (placeAt (spotted (spotsOf w)) f)) (s .frames))
+        ∙ swap (allBelow (kept? (s .frames) (spotsOf w) (s .free)) 1024) (allBelow (alone? (spotted (spotsOf w))) (s .frames))
+        (allBelow (λ f. walked? (tagsOf w) (spansOf w) (take 1024 hs) (placeAt (spotted (spotsOf w)) f)) (s .frames))
+        (allBelow (seatedAt (tagsOf w) (spotted (spotsOf w)) (s .frames)) (s .count))
         ∙ places-told s m (tagsOf w) (sheet-tags s w T few) (spansOf w) (take 1024 hs) (drop 1024 hs) (spotsOf w) (sheet-spans s w T few) C (sheet-spots s w T (sizes .places)) _ _ _ _ refl refl refl refl
       where
-        swap : (b a c : Bool) → (b && (a && c)) ≡ (a && (b && c))
-        swap true a c = refl
-        swap false true c = refl
-        swap false false c = refl
+        swap : (a b e d : Bool) → (a && ((b && e) && d)) ≡ (a && (b && (d && e)))
+        swap false b e d = refl
+        swap true false e d = refl
+        swap true true true true = refl
+        swap true true true false = refl
+        swap true true false true = refl
+        swap true true false false = refl
 
     pub examined : (q : Bool) (hs l : List ℕ) → counts? s ≡ true → slots? (s .live) (s .ranges) (s .count) 0 0 ≡ true → Tested (s .frames) (s .count) (s .free) w q hs l
         → (q ≡ sound? s) × Sized s × (q ≡ true → Examined s w l) × (q ≡ true → Chains w (s .count) hs)

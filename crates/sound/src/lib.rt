@@ -7,8 +7,12 @@ ghost use Prim.Native.Nat.{ℕ, _≤_, _<_};
 ghost use lib.ListN.{drop, length, replicate, take};
 ghost use Rattle.store.specs.Sound.{counts?, sound?, Sized};
 ghost use Rattle.sound_places.specs.Alone.{SpotChains};
+ghost use Rattle.sound_places.specs.Seats.{seatedAt};
+ghost use Rattle.sound_places.specs.Words.{spotsOf, tagsOf, Ranged, Short};
+ghost use Rattle.lists.specs.Every.{allBelow};
+ghost use Rattle.columns.specs.Columns.{spotted};
 ghost use Rattle.sound_ranges.specs.Slots.{slots?};
-ghost use Rattle.sound.specs.Parts.{placed?, resting?, Chains, Examined, Numbered, Tested, Told, spotsOf};
+ghost use Rattle.sound.specs.Parts.{placed?, Chains, Examined, Numbered, Tested, Told};
 
 // "1 to 1,024 frames", "at most 512 ranges"
 pub fn counts(s: Store) -> bool
@@ -33,40 +37,19 @@ fn load(s: Store, sheet: &mut [u64; 2579]) -> bool
     sound_ranges::load_ranges(ranges, s.count, s.live, sheet)
 }
 
-// The bits and the places of free frames; the frames of `Single` ranges; windows.
-fn rest_tests(
-    sheet: &[u64],
-    count: usize,
-    frames: usize,
-    free: [u64; 16],
-    holders: &[u16],
-    links: &[u16],
-) -> bool
-    requires { ⌜ (frames ≤ 1024) × (count ≤ 512) × Chains (now sheet) count (now holders) × (length (now links) ≡ 2048) × SpotChains (spotsOf (now sheet)) frames (take 1024 (now links)) (drop 1024 (now links)) ⌝ }
-    ensures { λ q. ⌜ q ≡ resting? frames count free (now (sheet .entry)) (now (holders .entry)) ⌝ }
+// "A `Single` range has .. its frame at index 0", of every range.
+fn seat_tests(sheet: &[u64], count: usize, frames: usize, links: &[u16]) -> bool
+    requires { ⌜ (frames ≤ 1024) × (count ≤ 512) × (length (now sheet) ≡ 2579) × ((i : ℕ) → i < count → Numbered (now sheet) i) × (length (now links) ≡ 2048) × SpotChains (spotsOf (now sheet)) frames (take 1024 (now links)) (drop 1024 (now links)) ⌝ }
+    ensures { λ q. ⌜ q ≡ allBelow (seatedAt (tagsOf (now (sheet .entry))) (spotted (spotsOf (now (sheet .entry)))) frames) count ⌝ }
 {
-    let spots = &sheet[1536..2560];
-    let tags = &sheet[1024..1536];
-    let a = sound_places::all_bits(free, spots, frames);
-    let d = sound_places::all_seated(
-        spots,
+    sound_places::all_seated(
+        &sheet[1536..2560],
         &links[0..1024],
         &links[1024..2048],
         frames,
-        tags,
+        &sheet[1024..1536],
         count,
-    );
-    let e = sound_places::all_windows(
-        spots,
-        frames,
-        &sheet[0..512],
-        tags,
-        &sheet[512..1024],
-        &holders[0..1024],
-        &holders[1024..2048],
-        count,
-    );
-    a & (d & e)
+    )
 }
 
 // The sentences about frames, their places and their bits, and the frames of `Single` ranges. Frames are chained.
@@ -78,11 +61,13 @@ fn place_tests(
     holders: &[u16],
     links: &mut [u16; 2048],
 ) -> bool
-    requires { ⌜ (frames ≤ 1024) × (count ≤ 512) × Chains (now sheet) count (now holders) × (now links ≡ replicate 2048 0) ⌝ }
+    requires { ⌜ (frames ≤ 1024) × Ranged (now sheet) (now holders) count × ((i : ℕ) → i < count → Numbered (now sheet) i) × (now links ≡ replicate 2048 0) ⌝ }
     ensures { λ q. ⌜ (q ≡ placed? frames count free (now (sheet .entry)) (now (holders .entry))) × (q ≡ true → SpotChains (spotsOf (now (sheet .entry))) frames (take 1024 (now (links .exit))) (drop 1024 (now (links .exit)))) ⌝ }
 {
-    if sound_places::chain_frames(&sheet[1536..2560], frames, links) {
-        return rest_tests(sheet, count, frames, free, holders, links);
+    if sound_places::all_bits(free, &sheet[1536..2560], frames) {
+        if sound_places::seat_all(free, sheet, holders, links, count, frames) {
+            return seat_tests(sheet, count, frames, links);
+        }
     }
     false
 }
@@ -96,7 +81,7 @@ fn tests(
     holders: &mut [u16; 2048],
     links: &mut [u16; 2048],
 ) -> bool
-    requires { ⌜ (frames ≤ 1024) × (count ≤ 512) × (length (now sheet) ≡ 2579) × ((i : ℕ) → i < count → Numbered (now sheet) i) × (now holders ≡ replicate 2048 0) × (now links ≡ replicate 2048 0) ⌝ }
+    requires { ⌜ (frames ≤ 1024) × (count ≤ 512) × (length (now sheet) ≡ 2579) × ((i : ℕ) → i < count → Numbered (now sheet) i) × ((i : ℕ) → i < count → Short (now sheet) i) × (now holders ≡ replicate 2048 0) × (now links ≡ replicate 2048 0) ⌝ }
     ensures { λ q. ⌜ Tested frames count free (now (sheet .entry)) q (now (holders .exit)) (now (links .exit)) ⌝ }
 {
     if sound_ranges::chain_ranges(&sheet[1024..1536], count, holders) {

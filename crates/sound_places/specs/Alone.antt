@@ -2,60 +2,46 @@
 use mathlib.Core.Path.{_≡_, refl, sym, ap, _∙_}
 use mathlib.Core.Bool.{Bool, true, false, not, _||_, false≢true}
 use mathlib.Core.List.{List}
-use Prim.Native.Nat.{ℕ, _+_, _*_, _/_, _%_, _≤_, _<_}
+use Prim.Native.Nat.{ℕ, zero, suc, _+_, _*_, _/_, _%_, _≤_, _<_}
+use native.Mathlib.Nat.{add-zero}
 use native.Mathlib.Omega.{arith}
 use lib.Dec.{eqb}
-use lib.ListN.{drop, getD, length, set, take}
+use lib.ListN.{getD}
 use borrow.Author.Tests.{eq-eqb, ne-eqb}
 use Rattle.places.specs.declared.Place.{Place}
 use Rattle.lists.specs.Test.{pick, by-eq}
 use Rattle.lists.specs.Every.{at-below}
-use Rattle.lists.specs.Listed.{listed, getD-listed}
 use Rattle.places.specs.Places.{placeAt}
-use Rattle.chains.specs.Chains.{Chained, Linked, inChain, linked-next}
+use Rattle.chains.specs.Chains.{Chained, Linked, chained-over, inChain}
 use Rattle.chains.specs.Walk.{Walk, walk-before}
-use Rattle.columns.specs.Columns.{Filled, spot-at, spotted}
+use Rattle.columns.specs.Columns.{spot-at, spotted}
 use Rattle.store.specs.Sound.{alone?, apart?}
 
--- the key of frame f at spot x. Free frames, which are compared with none, are spread over all chains.
-abbrev pub keyOf : ℕ → ℕ → ℕ
-keyOf x f = pick (eqb (x / 4294967296) 0) f (x / 4294967296 * 633 + x % 4294967296)
+-- the chain of a frame at spot x: a free frame, which is compared with none, is in no chain
+abbrev pub chainOf : ℕ → ℕ
+chainOf x = pick (eqb (x / 4294967296) 0) 1024 ((x / 4294967296 * 633 + x % 4294967296) % 1024)
 
--- the keys of the first n frames
-abbrev pub Keys : List ℕ → ℕ → List ℕ → Type 0
-Keys xs n ks = Filled (λ f k. k ≡ keyOf (getD xs f 0) f) n ks
+-- the chain of frame f
+abbrev pub chainAt : List ℕ → ℕ → ℕ
+chainAt xs f = chainOf (getD xs f 0)
 
--- the chains of the first n frames, by keys that are made of their spots
-pub record SpotChains (xs : List ℕ) (n : ℕ) (hs ns : List ℕ) : Type 0 where
-  pub keys : List ℕ
-  pub filled : Keys xs n keys
-  pub chained : Chained keys n hs ns
+-- the chains of the first n frames, by their spots
+abbrev pub SpotChains : List ℕ → ℕ → List ℕ → List ℕ → Type 0
+SpotChains xs n hs ns = Chained (chainAt xs) n hs ns
 
--- the links of those chains, without their heads
-pub record SpotLinks (xs : List ℕ) (n : ℕ) (ns : List ℕ) : Type 0 where
-  pub keys : List ℕ
-  pub filled : Keys xs n keys
-  pub links : Linked keys n ns
+module _ (x : ℕ) where
+  pub chain-free : x / 4294967296 ≡ 0 → 1024 ≤ chainOf x
+  chain-free e = rw (eq-eqb (x / 4294967296) 0 e) (omega arith)
 
--- ---- the keys of n frames, and chains by them, made frame by frame
-unfoldable pub keysOf : List ℕ → ℕ → List ℕ
-keysOf xs n = listed (λ f. keyOf (getD xs f 0) f) n
+  pub chain-used : (x / 4294967296 ≡ 0 → ⊥) → chainOf x ≡ (x / 4294967296 * 633 + x % 4294967296) % 1024
+  chain-used e = rw (ne-eqb (x / 4294967296) 0 e)
 
-module _ (xs : List ℕ) (n : ℕ) where
-  key-at : (f : ℕ) → f < n → getD (keysOf xs n) f 0 ≡ keyOf (getD xs f 0) f
-  unfolding keysOf
-  key-at f h = getD-listed (λ f. keyOf (getD xs f 0) f) n f 0 h
-
-  pub key-next : (l : List ℕ) (f h : ℕ) → length l ≡ 2048 → n ≤ 1024 → f < n → h ≡ keyOf (getD xs f 0) f % 1024
-      → Chained (keysOf xs n) f (take 1024 l) (drop 1024 l)
-      → Chained (keysOf xs n) (f + 1) (take 1024 (set (set l (1024 + f) (getD l h 0)) h (f + 1))) (drop 1024 (set (set l (1024 + f) (getD l h 0)) h (f + 1)))
-  key-next l f h long few b e C = linked-next (keysOf xs n) l f h long (omega arith) (e ∙ ap (λ (k : ℕ). k % 1024) (sym (key-at f b))) C
-
-  pub key-links : (f : ℕ) (hs ns : List ℕ) → f ≤ n → Chained (keysOf xs n) f hs ns → SpotLinks xs f ns
-  key-links f hs ns l C = record { keys = keysOf xs n; filled = record { each = λ k h. key-at k (omega arith) }; links = C .next }
-
-  pub key-chains : (hs ns : List ℕ) → Chained (keysOf xs n) n hs ns → SpotChains xs n hs ns
-  key-chains hs ns C = record { keys = keysOf xs n; filled = record { each = λ k h. key-at k h }; chained = C }
+-- frames that are free, d of them, are passed over
+pub chained-free : (xs hs ns : List ℕ) (n d : ℕ) → ((f : ℕ) → n ≤ f → f < n + d → getD xs f 0 / 4294967296 ≡ 0) → SpotChains xs n hs ns → SpotChains xs (n + d) hs ns
+chained-free xs hs ns n zero e C = rw (add-zero n) C
+chained-free xs hs ns n (suc d) e C =
+    let q : n + suc d ≡ n + d + 1 = omega arith in
+    rw q (chained-over (chainAt xs) hs ns (n + d) (chained-free xs hs ns n d (λ f l h. e f l (omega arith)) C) (chain-free (getD xs (n + d) 0) (e (n + d) (omega arith) (omega arith))))
 
 -- a free frame stands at no other's place
 alone-free : (ps : List Place) (f : ℕ) → placeAt ps f .backing ≡ 0 → true ≡ alone? ps f
@@ -69,9 +55,6 @@ apartFrom ps f g = apart? (placeAt ps g) (placeAt ps f)
 module _ (xs : List ℕ) (f : ℕ) where
   pub spot-free : getD xs f 0 / 4294967296 ≡ 0 → true ≡ alone? (spotted xs) f
   spot-free e = alone-free (spotted xs) f (rw (spot-at xs f) e)
-
-  pub spot-free-apart : (g : ℕ) → getD xs f 0 / 4294967296 ≡ 0 → apartFrom (spotted xs) f g ≡ true
-  spot-free-apart g e = rw (spot-at xs f, eq-eqb (getD xs f 0 / 4294967296) 0 e)
 
   -- a frame in use, and a frame at its spot or not
   module _ (used : getD xs f 0 / 4294967296 ≡ 0 → ⊥) (g : ℕ) where
@@ -92,21 +75,13 @@ module _ (xs : List ℕ) (f : ℕ) where
             (λ i. rw (eq-eqb (y / 4294967296) (x / 4294967296) e, ne-eqb (y % 4294967296) (x % 4294967296) i)))
             (λ e. rw (ne-eqb (y / 4294967296) (x / 4294967296) e))
 
-  -- a frame outside of the chain of frame f does not stand at its place
-  pub spot-over : (n : ℕ) (ks : List ℕ) → Keys xs n ks → f < n → (g : ℕ) → g < f → inChain ks (getD ks f 0 % 1024) g ≡ false → apartFrom (spotted xs) f g ≡ true
-  spot-over n ks K l g b o =
-      by-eq (getD xs f 0 / 4294967296) 0
-      (λ z. spot-free-apart g z)
-      (λ z. by-eq (getD xs g 0) (getD xs f 0)
-      (λ e. absurd (false≢true (sym o ∙ eq-eqb (getD ks g 0 % 1024) (getD ks f 0 % 1024) (ap (λ (k : ℕ). k % 1024) (met z e)))))
-      (λ e. spot-apart z g e))
-    where
-      met : (getD xs f 0 / 4294967296 ≡ 0 → ⊥) → getD xs g 0 ≡ getD xs f 0 → getD ks g 0 ≡ getD ks f 0
-      met z e =
-          let p : getD ks f 0 ≡ keyOf (getD xs f 0) f = K .each f l in
-          let q : getD ks g 0 ≡ keyOf (getD xs g 0) g = K .each g (omega arith) in
-          let r : eqb (getD xs f 0 / 4294967296) 0 ≡ false = ne-eqb (getD xs f 0 / 4294967296) 0 z in
-          rw (p, q, e, r)
+    -- a frame outside of the chain of frame f does not stand at its place
+    pub spot-over : inChain (chainAt xs) (chainAt xs f) g ≡ false → apartFrom (spotted xs) f g ≡ true
+    spot-over o =
+        by-eq (getD xs g 0) (getD xs f 0)
+        (λ e. absurd (false≢true (sym o ∙ eq-eqb (chainAt xs g) (chainAt xs f) (ap chainOf e))))
+        (λ e. spot-apart e)
 
-  pub walk-alone : (n : ℕ) (ns : List ℕ) → SpotLinks xs n ns → f < n → Walk ns (apartFrom (spotted xs) f) f (getD ns f 0)
-  walk-alone n ns L l = walk-before (L .keys) ns n (L .links) (apartFrom (spotted xs) f) f l (spot-over n (L .keys) (L .filled) l)
+  pub walk-alone : (getD xs f 0 / 4294967296 ≡ 0 → ⊥) → (ns : List ℕ) → Linked (chainAt xs) (f + 1) ns → Walk ns (apartFrom (spotted xs) f) f (getD ns f 0)
+  walk-alone used ns L =
+      walk-before (chainAt xs) ns (f + 1) L (apartFrom (spotted xs) f) f (omega arith) (omega (arith, chain-used (getD xs f 0) used)) (λ g b o. spot-over used g o)

@@ -97,7 +97,7 @@ word-free n xs a k l h = rw (full k l) (sym (bit-free n (a + k) (getD xs (a + k)
 
 -- the frames of word i
 module _ (n : ℕ) (xs ws : List ℕ) (i : ℕ) where
-  kept-word : (k : ℕ) → k < 64 → wordKept? n xs (getD ws i 0) (i * 64) k ≡ kept? n xs ws (i * 64 + k)
+  pub kept-word : (k : ℕ) → k < 64 → wordKept? n xs (getD ws i 0) (i * 64) k ≡ kept? n xs ws (i * 64 + k)
   unfolding freeBit
   kept-word k h =
       let d : (i * 64 + k) / 64 ≡ i = omega arith in

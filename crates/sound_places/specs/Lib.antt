@@ -2,3 +2,4 @@ pub mod Alone
 pub mod Windows
 pub mod Seats
 pub mod Bits
+pub mod Words

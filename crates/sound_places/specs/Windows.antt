@@ -17,7 +17,7 @@ use Rattle.ranges.specs.Range.{Range}
 use Rattle.ranges.specs.Table.{named, window}
 use Rattle.table.specs.Table.{rangeOf, rangesOf, zeroRange}
 use Rattle.places.specs.Places.{placeAt}
-use Rattle.chains.specs.Chains.{Chained, inChain}
+use Rattle.chains.specs.Chains.{Chained, inChain, keyed}
 use Rattle.chains.specs.Walk.{Walk, link-low, walk-all, walk-end, walk-here, walk-next}
 use Rattle.columns.specs.Columns.{spot-at, spotted}
 use Rattle.columns.specs.Ranges.{Spans, Tags}
@@ -42,7 +42,7 @@ walked? ts xs hs p = eqb (p .backing) 0 || not (allBelow (outside ts xs (p .back
 -- the chains of the first n ranges, by their tags, and a link to one of those, or 0
 pub record Hinted (ts hs ns : List ℕ) (n k : ℕ) : Type 0 where
   pub few : n ≤ 512
-  pub chained : Chained ts n hs ns
+  pub chained : Chained (keyed ts) n hs ns
   pub low : k ≤ n
 
 -- how long the columns and the chains are
@@ -112,22 +112,22 @@ module _ (ts xs ns : List ℕ) (x k : ℕ) where
         }
 
 -- ---- the walk along the chain of a backing
-module _ (ts xs hs ns : List ℕ) (n : ℕ) (C : Chained ts n hs ns) where
+module _ (ts xs hs ns : List ℕ) (n : ℕ) (C : Chained (keyed ts) n hs ns) where
   -- a range outside of the chain has another backing
   walk-windows : (b i : ℕ) → Walk ns (outside ts xs b i) n (getD hs (b % 1024) 0)
-  walk-windows b i = walk-all ts hs ns n C (outside ts xs b i) (b % 1024) (omega arith) other
+  walk-windows b i = walk-all (keyed ts) hs ns n C (outside ts xs b i) (b % 1024) (omega arith) other
     where
-      other : (j : ℕ) → j < n → inChain ts (b % 1024) j ≡ false → outside ts xs b i j ≡ true
+      other : (j : ℕ) → j < n → inChain (keyed ts) (b % 1024) j ≡ false → outside ts xs b i j ≡ true
       other j h o =
           by-eq b (getD ts j 0 % 4294967296)
           (λ e. absurd (false≢true (sym o ∙ eq-eqb (getD ts j 0 % 1024) (b % 1024) (omega arith))))
           (λ e. rw (ne-eqb b (getD ts j 0 % 4294967296) e))
 
   falls : (k : ℕ) → k ≤ n → Falls ns k
-  falls k h = record { down = λ i l. link-low ts ns n (C .next) i (omega arith) }
+  falls k h = record { down = λ i l. link-low (keyed ts) ns n (C .next) i (omega arith) (omega arith) }
 
   -- what a range in whose window x lies says of the chain of its backing
-  met-by : (x r : ℕ) → 0 < r → r ≤ n → windowIn (getD ts (r - 1) 0) (getD xs (r - 1) 0) (x / 4294967296) (x % 4294967296) ≡ true
+  pub met-by : (x r : ℕ) → 0 < r → r ≤ n → windowIn (getD ts (r - 1) 0) (getD xs (r - 1) 0) (x / 4294967296) (x % 4294967296) ≡ true
       → allBelow (outsideAt ts xs x) (getD hs (x / 4294967296 % 1024) 0) ≡ false
   met-by x r h l e =
       walk-windows (x / 4294967296) (x % 4294967296) .same ∙ sym (below-fails (outsideAt ts xs x) n (r - 1) (omega arith) (ap not e))
@@ -146,9 +146,6 @@ module _ (ts xs hs ns : List ℕ) (n x hint : ℕ) (H : Hinted ts hs ns n hint) 
 
   pub met-hit : (k r : ℕ) → k ≤ n → Hit ts xs x k r → 0 < r → Met ts xs hs ns n x r
   met-hit k r l F h = let b = F .low in met r (omega arith) (λ z. absurd (omega arith)) (F .hit)
-
-  pub met-at-head : (r : ℕ) → Hit ts xs x (getD hs (x / 4294967296 % 1024) 0) r → (r ≡ 0 → ⊥) → Met ts xs hs ns n x r
-  met-at-head r F h = met-hit (getD hs (x / 4294967296 % 1024) 0) r head-low F (omega arith)
 
   pub met-head : (r : ℕ) → Found ts xs ns x (getD hs (x / 4294967296 % 1024) 0) r → Met ts xs hs ns n x r
   met-head r F =
@@ -193,24 +190,6 @@ module _ (ts xs hs ss : List ℕ) (f : ℕ) where
       let e : getD ss f 0 / 4294967296 ≡ 0 = omega arith in
       ap (walked? ts xs hs) (spot-at ss f) ∙ rw (eq-eqb (getD ss f 0 / 4294967296) 0 e)
 
-  pub walked-seen : (low high : ℕ) → Seen ts xs hs low high → low ≤ getD ss f 0 → getD ss f 0 < high → walked? ts xs hs (placeAt (spotted ss) f) ≡ true
-  walked-seen low high S b l =
-      ap (walked? ts xs hs) (spot-at ss f)
-      ∙ by-test (eqb (getD ss f 0 / 4294967296) 0) (λ e. rw e) (λ e. rw (e, S .met (getD ss f 0) b l))
-
-  module _ (ns : List ℕ) (n r : ℕ) (M : Met ts xs hs ns n (getD ss f 0) r) (u : 0 < getD ss f 0 / 4294967296) where
-    pub walked-met : (r ≡ 0 → ⊥) → walked? ts xs hs (placeAt (spotted ss) f) ≡ true
-    walked-met h =
-        let z : eqb (getD ss f 0 / 4294967296) 0 ≡ false = ne-eqb (getD ss f 0 / 4294967296) 0 (λ e. omega arith) in
-        let q = M .some (omega arith) in
-        ap (walked? ts xs hs) (spot-at ss f) ∙ rw (z, q)
-
-    pub walked-none : r ≡ 0 → walked? ts xs hs (placeAt (spotted ss) f) ≡ false
-    walked-none h =
-        let z : eqb (getD ss f 0 / 4294967296) 0 ≡ false = ne-eqb (getD ss f 0 / 4294967296) 0 (λ e. omega arith) in
-        let q = M .none h in
-        ap (walked? ts xs hs) (spot-at ss f) ∙ rw (z, q)
-
 -- ---- the columns tell the windows of the table
 named-snoc : (b i : ℕ) (rs : List Range) (r : Range) → named b i (rs ++ (r ∷ [])) ≡ (window b i r || named b i rs)
 unfolding named
@@ -241,7 +220,7 @@ module _ (l : List PageRange) (ts xs : List ℕ) (n : ℕ) (m : n ≤ length l) 
       either true a = refl
       either false a = refl
 
-  module _ (hs ns : List ℕ) (C : Chained ts n hs ns) where
+  module _ (hs ns : List ℕ) (C : Chained (keyed ts) n hs ns) where
     -- what the walk answers is what all windows answer
     pub walk-named : (b i : ℕ) → named b i (rangesOf (take n l)) ≡ not (allBelow (outside ts xs b i) (getD hs (b % 1024) 0))
     walk-named b i = rw (windows-told b i n (le-refl n), walk-windows ts xs hs ns n C b i .same)

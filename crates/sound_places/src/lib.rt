@@ -1,8 +1,8 @@
 // The tests of the frames' places and of the free map, one function for each test of store/specs/Sound.antt, on columns of numbers that are lent.
 // Any columns may come in; chains must be those of the columns.
 ghost use mathlib.Core.Path.{_≡_};
-ghost use mathlib.Core.Bool.{true, _&&_};
-ghost use Prim.Native.Nat.{ℕ, _+_, _-_, _/_, _%_, _≤_, _<_, max};
+ghost use mathlib.Core.Bool.{true, false, not, _&&_};
+ghost use Prim.Native.Nat.{ℕ, _+_, _-_, _*_, _/_, _%_, _≤_, _<_, max, min};
 ghost use lib.Dec.{leb, ltb, eqb};
 ghost use lib.ListN.{drop, getD, length, replicate, take};
 ghost use Rattle.lists.specs.Test.{pick};
@@ -10,10 +10,11 @@ ghost use Rattle.lists.specs.Every.{allBelow};
 ghost use Rattle.places.specs.Places.{placeAt};
 ghost use Rattle.chains.specs.Walk.{Walk};
 ghost use Rattle.columns.specs.Columns.{spotOf, spotted};
-ghost use Rattle.sound_places.specs.Alone.{apartFrom, keyOf, SpotChains};
-ghost use Rattle.sound_places.specs.Bits.{wordKept?};
-ghost use Rattle.sound_places.specs.Windows.{walked?, windowIn, Falls, Found, Hinted, Hit, Met, Wide};
+ghost use Rattle.sound_places.specs.Alone.{apartFrom, SpotChains};
+ghost use Rattle.sound_places.specs.Bits.{kept?, wordKept?};
+ghost use Rattle.sound_places.specs.Windows.{outsideAt, windowIn, Falls, Found, Hinted, Hit, Met, Wide};
 ghost use Rattle.sound_places.specs.Seats.{seatedAt};
+ghost use Rattle.sound_places.specs.Words.{placedAt?, spansOf, spotsOf, tagsOf, Looked, Noted, Ranged, Seated, Short};
 ghost use Rattle.store.specs.Sound.{alone?, idle?, bit?, same, stands?};
 
 // Whether the spot x lies in the window of a range, by its tag and its span.
@@ -51,19 +52,6 @@ pub fn hit(tags: &[u64], spans: &[u64], k: usize, x: u64) -> usize
         }
     }
     0
-}
-
-// The same of the head of the chain of the spot's backing.
-pub fn at_head(tags: &[u64], spans: &[u64], heads: &[u16], x: u64) -> usize
-    requires { ⌜ (getD (now heads) (x / 4294967296 % 1024) 0 ≤ 512) × (length (now tags) ≡ 512) × (length (now spans) ≡ 512) × (length (now heads) ≡ 1024) ⌝ }
-    ensures { λ r. ⌜ Hit (now (tags .entry)) (now (spans .entry)) x (getD (now (heads .entry)) (x / 4294967296 % 1024) 0) r ⌝ }
-{
-    hit(
-        tags,
-        spans,
-        heads[(x / 4294967296 % 1024) as usize] as usize,
-        x,
-    )
 }
 
 // How many ranges begin at or before page g of the line, by halving: of use as a guess, so only its bound is promised.
@@ -178,72 +166,82 @@ pub fn window_end(x: u64, span: u64) -> u64
     x - x % 4294967296 + n
 }
 
-// "Each vector entry lies in the window of some range that holds the vector." A free frame is no vector's entry. The window that was found last, from spot `low` up
-// to `high`, is looked at first: frames of one backing often stand in one window.
-pub fn all_windows(
-    spots: &[u64],
-    frames: usize,
-    lines: &[u64],
-    tags: &[u64],
-    spans: &[u64],
-    heads: &[u16],
-    next: &[u16],
-    count: usize,
-) -> bool
-    requires { ⌜ (frames ≤ length (now spots)) × Hinted (now tags) (now heads) (now next) count 0 × Wide (now lines) (now tags) (now spans) (now heads) (now next) ⌝ }
-    ensures { λ q. ⌜ q ≡ allBelow (λ f. walked? (now (tags .entry)) (now (spans .entry)) (now (heads .entry)) (placeAt (spotted (now (spots .entry))) f)) frames ⌝ }
+// The lesser of two numbers.
+fn least(a: usize, b: usize) -> usize
+    ensures { λ r. ⌜ r ≡ min a b ⌝ }
 {
-    let mut hint: usize = 0;
-    let mut low: u64 = 0;
-    let mut high: u64 = 0;
-    let mut f: usize = 0;
-    while f < frames {
-        let x = spots[f];
-        if (low <= x) & (x < high) {
-            f += 1;
-            continue;
-        }
-        if 0 < x / 4294967296 {
-            let mut r = at_head(tags, spans, heads, x);
-            if r == 0 {
-                r = searched(lines, tags, spans, heads, next, count, hint, x);
-                if r == 0 {
-                    return false;
-                }
-            }
-            let span = spans[r - 1];
-            hint = r;
-            low = window_start(x, span);
-            high = window_end(x, span);
-        }
-        f += 1;
+    if a < b {
+        return a;
     }
-    true
+    b
 }
 
-// The key of frame f at this spot: frames at one place have one key.
-pub fn key(spot: u64, f: usize) -> usize
-    ensures { λ k. ⌜ k ≡ keyOf spot f ⌝ }
+// Whether the spot x lies in the window of the range at link r. If so, the window is noted as the one that was found last: `seen` has its first spot, the one behind its last,
+// and a link to search from.
+fn noted(sheet: &[u64], seen: &mut [u64; 3], r: usize, x: u64) -> bool
+    requires { ⌜ (0 < r) × (r ≤ 512) × (length (now sheet) ≡ 2579) × Short (now sheet) (r - 1) × (length (now seen) ≡ 3) ⌝ }
+    ensures { λ q. ⌜ (q ≡ windowIn (getD (tagsOf (now (sheet .entry))) (r - 1) 0) (getD (spansOf (now (sheet .entry))) (r - 1) 0) (x / 4294967296) (x % 4294967296)) × (q ≡ true → Noted (now (sheet .entry)) r (now (seen .entry)) (now (seen .exit))) × (q ≡ false → now (seen .exit) ≡ now (seen .entry)) ⌝ }
 {
-    let backing = spot / 4294967296;
-    if backing == 0 {
-        return f;
-    }
-    (backing * 633 + spot % 4294967296) as usize
-}
-
-// Whether no frame before frame f stands at its place: a walk along its chain, whose links stand behind 1,024 heads.
-pub fn alone(spots: &[u64], links: &[u16; 2048], f: usize) -> bool
-    requires { ⌜ (f < 1024) × Walk (drop 1024 (now links)) (apartFrom (spotted (now spots)) f) f (getD (drop 1024 (now links)) f 0) × (length (now spots) ≡ 1024) ⌝ }
-    ensures { λ q. ⌜ q ≡ alone? (spotted (now (spots .entry))) f ⌝ }
-{
-    let x = spots[f];
-    if x / 4294967296 == 0 {
+    let span = sheet[512 + (r - 1)];
+    let low = sheet[1024 + (r - 1)] % 4294967296 * 4294967296 + span / 4294967296;
+    let high = low + span % 4294967296;
+    if (low <= x) & (x < high) {
+        seen[0] = low;
+        seen[1] = high;
         return true;
     }
-    let mut g = links[1024 + f] as usize;
+    false
+}
+
+// Whether a range has the spot x in its window: the range is searched for from the last that a search found.
+fn sought(sheet: &[u64], holders: &[u16], seen: &mut [u64; 3], count: usize, x: u64) -> bool
+    requires { ⌜ Ranged (now sheet) (now holders) count × Looked (now sheet) (now holders) count (now seen) ⌝ }
+    ensures { λ q. ⌜ (q ≡ not (allBelow (outsideAt (tagsOf (now (sheet .entry))) (spansOf (now (sheet .entry))) x) (getD (take 1024 (now (holders .entry))) (x / 4294967296 % 1024) 0))) × (q ≡ true → Looked (now (sheet .entry)) (now (holders .entry)) count (now (seen .exit))) ⌝ }
+{
+    let hint = seen[2] as usize;
+    let r = searched(
+        &sheet[0..512],
+        &sheet[1024..1536],
+        &sheet[512..1024],
+        &holders[0..1024],
+        &holders[1024..2048],
+        count,
+        hint,
+        x,
+    );
+    if r == 0 {
+        return false;
+    }
+    seen[2] = r as u64;
+    noted(sheet, seen, r, x)
+}
+
+// Whether a range has the spot x in its window. The window that was found last is looked at first, since frames of one backing often stand in one window; then that of
+// the head of the chain of the spot's backing.
+fn windowed(sheet: &[u64], holders: &[u16], seen: &mut [u64; 3], count: usize, x: u64) -> bool
+    requires { ⌜ Ranged (now sheet) (now holders) count × Looked (now sheet) (now holders) count (now seen) ⌝ }
+    ensures { λ q. ⌜ (q ≡ not (allBelow (outsideAt (tagsOf (now (sheet .entry))) (spansOf (now (sheet .entry))) x) (getD (take 1024 (now (holders .entry))) (x / 4294967296 % 1024) 0))) × (q ≡ true → Looked (now (sheet .entry)) (now (holders .entry)) count (now (seen .exit))) ⌝ }
+{
+    if (seen[0] <= x) & (x < seen[1]) {
+        return true;
+    }
+    let r = holders[(x / 4294967296 % 1024) as usize] as usize;
+    if 0 < r {
+        if noted(sheet, seen, r, x) {
+            return true;
+        }
+    }
+    sought(sheet, holders, seen, count, x)
+}
+
+// Whether no frame before frame f stands at its spot x: a walk along its chain from link k on, the links standing behind 1,024 heads.
+fn alone(sheet: &[u64], links: &[u16; 2048], f: usize, k: usize, x: u64) -> bool
+    requires { ⌜ (f < 1024) × (length (now sheet) ≡ 2579) × (x ≡ getD (spotsOf (now sheet)) f 0) × (0 < x / 4294967296) × Walk (drop 1024 (now links)) (apartFrom (spotted (spotsOf (now sheet))) f) f k ⌝ }
+    ensures { λ q. ⌜ q ≡ alone? (spotted (spotsOf (now (sheet .entry)))) f ⌝ }
+{
+    let mut g = k;
     while 0 < g {
-        if spots[g - 1] == x {
+        if sheet[1536 + (g - 1)] == x {
             return false;
         }
         g = links[1024 + (g - 1)] as usize;
@@ -251,22 +249,88 @@ pub fn alone(spots: &[u64], links: &[u16; 2048], f: usize) -> bool
     true
 }
 
-// "Each frame is free or stands in exactly one backing at one index, no two at the same." Frames are chained by their keys on the way, each compared with those of
-// its chain before it.
-pub fn chain_frames(spots: &[u64], frames: usize, links: &mut [u16; 2048]) -> bool
-    requires { ⌜ (frames ≤ 1024) × (length (now spots) ≡ 1024) × (now links ≡ replicate 2048 0) ⌝ }
-    ensures { λ q. ⌜ (q ≡ allBelow (alone? (spotted (now (spots .entry)))) frames) × (q ≡ true → SpotChains (now (spots .entry)) frames (take 1024 (now (links .exit))) (drop 1024 (now (links .exit)))) × (length (now (links .exit)) ≡ 2048) ⌝ }
+// The chain of the frames at spot x, and of others.
+fn chain_of(x: u64) -> usize
+    ensures { λ h. ⌜ h ≡ (x / 4294967296 * 633 + x % 4294967296) % 1024 ⌝ }
 {
-    let mut f: usize = 0;
-    while f < frames {
-        let h = key(spots[f], f) % 1024;
-        links[1024 + f] = links[h];
-        links[h] = (f as u16) + 1;
-        if alone(spots, links, f) {
-            f += 1;
-        } else {
+    ((x / 4294967296 * 633 + x % 4294967296) % 1024) as usize
+}
+
+// "Each frame is free or stands in exactly one backing at one index, no two at the same"; "each vector entry lies in the window of some range that holds the vector": of
+// frame f, which is in use. It is put into its chain, before the frames that it is compared with.
+fn seat(
+    sheet: &[u64],
+    holders: &[u16],
+    links: &mut [u16; 2048],
+    seen: &mut [u64; 3],
+    count: usize,
+    f: usize,
+) -> bool
+    requires { ⌜ (f < 1024) × (0 < getD (spotsOf (now sheet)) f 0 / 4294967296) × Ranged (now sheet) (now holders) count × Seated (now sheet) (now holders) count f (now links) (now seen) ⌝ }
+    ensures { λ q. ⌜ (q ≡ placedAt? (now (sheet .entry)) (now (holders .entry)) f) × (q ≡ true → Seated (now (sheet .entry)) (now (holders .entry)) count (f + 1) (now (links .exit)) (now (seen .exit))) ⌝ }
+{
+    let x = sheet[1536 + f];
+    let h = chain_of(x);
+    let k = links[h];
+    links[1024 + f] = k;
+    links[h] = (f as u16) + 1;
+    if alone(sheet, links, f, k as usize, x) {
+        return windowed(sheet, holders, seen, count, x);
+    }
+    false
+}
+
+// The same of the frames in use from `first` up to `end`, those before having passed.
+fn seat_frames(
+    sheet: &[u64],
+    holders: &[u16],
+    links: &mut [u16; 2048],
+    seen: &mut [u64; 3],
+    count: usize,
+    first: usize,
+    end: usize,
+) -> bool
+    requires { ⌜ (first ≤ end) × (end ≤ 1024) × Ranged (now sheet) (now holders) count × Seated (now sheet) (now holders) count first (now links) (now seen) × (allBelow (placedAt? (now sheet) (now holders)) first ≡ true) ⌝ }
+    ensures { λ q. ⌜ (q ≡ allBelow (placedAt? (now (sheet .entry)) (now (holders .entry))) end) × (q ≡ true → Seated (now (sheet .entry)) (now (holders .entry)) count end (now (links .exit)) (now (seen .exit))) ⌝ }
+{
+    let mut f: usize = first;
+    while f < end {
+        if 0 < sheet[1536 + f] / 4294967296 {
+            if seat(sheet, holders, links, seen, count, f) {
+                f += 1;
+                continue;
+            }
             return false;
         }
+        f += 1;
+    }
+    true
+}
+
+// The same of all frames, which are chained by their places. Words of the map with every bit set are passed over: those frames are free.
+pub fn seat_all(
+    free: [u64; 16],
+    sheet: &[u64],
+    holders: &[u16],
+    links: &mut [u16; 2048],
+    count: usize,
+    frames: usize,
+) -> bool
+    requires { ⌜ (frames ≤ 1024) × Ranged (now sheet) (now holders) count × (now links ≡ replicate 2048 0) × (allBelow (kept? frames (spotsOf (now sheet)) free) 1024 ≡ true) ⌝ }
+    ensures { λ q. ⌜ (q ≡ allBelow (placedAt? (now (sheet .entry)) (now (holders .entry))) frames) × (q ≡ true → SpotChains (spotsOf (now (sheet .entry))) frames (take 1024 (now (links .exit))) (drop 1024 (now (links .exit)))) × (q ≡ true → length (now (links .exit)) ≡ 2048) ⌝ }
+{
+    let mut seen = [0u64; 3];
+    let mut i: usize = 0;
+    while i * 64 < frames {
+        if free[i] < 18446744073709551615 {
+            let end = least(i * 64 + 64, frames);
+            if seat_frames(sheet, holders, links, &mut seen, count, i * 64, end) {
+                i += 1;
+                continue;
+            }
+            return false;
+        }
+        i += 1;
     }
     true
 }
@@ -339,14 +403,15 @@ fn all_used(spots: &[u64], frames: usize, first: usize) -> bool
     requires { ⌜ (first + 64 ≤ length (now spots)) × (first + 64 ≤ frames) ⌝ }
     ensures { λ q. ⌜ q ≡ allBelow (wordKept? frames (now (spots .entry)) 0 first) 64 ⌝ }
 {
+    let mut n: usize = 0;
     let mut k: usize = 0;
     while k < 64 {
         if spots[first + k] < 4294967296 {
-            return false;
+            n += 1;
         }
         k += 1;
     }
-    true
+    n == 0
 }
 
 // Whether the 64 frames from `first` on are free: the same where all bits are set.
@@ -354,14 +419,15 @@ fn all_free(spots: &[u64], frames: usize, first: usize) -> bool
     requires { ⌜ (first + 64 ≤ length (now spots)) × (first + 64 ≤ frames) ⌝ }
     ensures { λ q. ⌜ q ≡ allBelow (wordKept? frames (now (spots .entry)) 18446744073709551615 first) 64 ⌝ }
 {
+    let mut n: usize = 0;
     let mut k: usize = 0;
     while k < 64 {
         if 0 < spots[first + k] {
-            return false;
+            n += 1;
         }
         k += 1;
     }
-    true
+    n == 0
 }
 
 // The same of the 64 frames from `first` on, whose bits are those of a word of the map, the lowest first.

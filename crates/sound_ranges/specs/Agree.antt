@@ -14,7 +14,7 @@ use Rattle.table.specs.declared.BackingPages.the-variants.{Nothing, Single, Man
 use Rattle.lists.specs.Test.{by-eq, by-lt, by-test}
 use Rattle.lists.specs.Every.{allBelow, at-below, below-at, every, every-fails, every-next, every-none}
 use Rattle.table.specs.Table.{zeroRange}
-use Rattle.chains.specs.Chains.{Linked}
+use Rattle.chains.specs.Chains.{keyed, Linked}
 use Rattle.chains.specs.Walk.{Walk, walk-before}
 use Rattle.columns.specs.Ranges.{Tag, Tags}
 use Rattle.store.specs.Sound.{alike}
@@ -114,8 +114,8 @@ module _ (l : List PageRange) (ts : List ℕ) (n : ℕ) (m : n ≤ length l) (T 
           told i j p k ∙ every-at (λ b. alike (back j) (b .backing)) l zeroRange n m r i p
 
 -- a range outside of the chain of range i has another backing
-pub walk-agree : (ts ns : List ℕ) (n i : ℕ) → Linked ts n ns → i < n → Walk ns (alikeTo ts i) i (getD ns i 0)
-walk-agree ts ns n i L l = walk-before ts ns n L (alikeTo ts i) i l (λ j b o. other (getD ts j 0) (getD ts i 0) o)
+pub walk-agree : (ts ns : List ℕ) (n i : ℕ) → Linked (keyed ts) n ns → i < n → Walk ns (alikeTo ts i) i (getD ns i 0)
+walk-agree ts ns n i L l = walk-before (keyed ts) ns n L (alikeTo ts i) i l (omega arith) (λ j b o. other (getD ts j 0) (getD ts i 0) o)
   where
     other : (x y : ℕ) → eqb (x % 1024) (y % 1024) ≡ false → alikeIn x y ≡ true
     other x y o =

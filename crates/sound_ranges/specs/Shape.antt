@@ -3,10 +3,10 @@ use mathlib.Core.Path.{_≡_, refl}
 use mathlib.Core.Bool.{Bool, true, false, _&&_, false≢true}
 use mathlib.Core.List.{List, [], _∷_}
 use Prim.Native.Nat.{ℕ, _+_, _≤_, _<_}
-use native.Mathlib.Omega.{arith}
 use lib.Dec.{ltb, leb, eqb}
 use lib.ListN.{length, take, drop, getD}
-use borrow.Author.Tests.{leb-true, lt-ltb, ltb-true, eqb-true}
+use native.Mathlib.Omega.{arith}
+use borrow.Author.Tests.{eqb-true, leb-true, lt-ltb, ltb-true}
 use Rattle.table.specs.declared.PageRange.{PageRange}
 use Rattle.table.specs.declared.BackingPages.{BackingPages}
 use Rattle.table.specs.declared.BackingPages.the-variants.{Nothing, Single, Many}
@@ -14,15 +14,19 @@ use Rattle.lists.specs.Test.{by-test, and-left, and-right}
 use Rattle.lists.specs.Every.{every}
 use Rattle.lists.specs.Rest.{left-cons, left-end}
 use Rattle.ranges.specs.Range.{from, upto}
-use Rattle.table.specs.Table.{numberOf, rangeOf, rangesOf, zeroRange, Small}
+use Rattle.table.specs.Table.{numberOf, rangeOf, rangesOf, zeroRange}
 use Rattle.store.specs.Abs.{liveBit}
 use Rattle.store.specs.Sound.{rising?}
 
--- what `kind?` asks of the range alone
+-- what `kind?` asks of a range's length and offset
+abbrev pub fits? : ℕ → ℕ → BackingPages → Bool
+fits? length offset Nothing = false
+fits? length offset (Single b) = ltb 0 b && (eqb length 1 && eqb offset 0)
+fits? length offset (Many b) = ltb 0 b && leb (offset + length) 1048576
+
+-- what it asks of the range alone
 abbrev pub shapedKind? : PageRange → BackingPages → Bool
-shapedKind? r Nothing = false
-shapedKind? r (Single b) = ltb 0 b && (eqb (r .length) 1 && eqb (r .offset) 0)
-shapedKind? r (Many b) = ltb 0 b && leb (r .offset + r .length) 1048576
+shapedKind? r k = fits? (r .length) (r .offset) k
 
 -- what `fine?` asks of the range alone, whatever its object
 abbrev pub wellFormed? : PageRange → Bool
@@ -32,10 +36,14 @@ wellFormed? r = leb 1 (r .length) && (leb (r .start .0 + r .length) 262144 && sh
 abbrev pub shaped? : ℕ → PageRange → Bool
 shaped? live r = leb (r .object) 31 && (liveBit live (r .object) && wellFormed? r)
 
+-- the same, and it begins at or after `low`
+abbrev pub follows? : ℕ → ℕ → PageRange → Bool
+follows? live low r = shaped? live r && leb low (from (rangeOf r))
+
 -- each range is shaped, and begins at or after `low`, where the one before it ends
 unfoldable pub rises? : ℕ → ℕ → List PageRange → Bool
 rises? live low [] = true
-rises? live low (r ∷ rs) = (shaped? live r && leb low (from (rangeOf r))) && rises? live (upto (rangeOf r)) rs
+rises? live low (r ∷ rs) = follows? live low r && rises? live (upto (rangeOf r)) rs
 
 module _ (live : ℕ) where
   shaped-long : (r : PageRange) → shaped? live r ≡ true → ltb 0 (r .length) ≡ true
@@ -59,13 +67,12 @@ module _ (live : ℕ) where
       turn false false c = refl
 
   -- ---- what a range that is shaped says
-
-  pub shaped-small : (r : PageRange) → shaped? live r ≡ true → Small r
-  shaped-small r h =
+  pub shaped-short : (r : PageRange) → shaped? live r ≡ true → r .offset + r .length ≤ 1048576
+  shaped-short r h =
       let a = and-right (leb (r .object) 31) _ h in
       let b = and-right (liveBit live (r .object)) _ a in
       let c = and-right (leb 1 (r .length)) _ b in
-      record { ends = leb-true _ _ (and-left (leb (r .start .0 + r .length) 262144) _ c); indexes = indexes (r .backing) (and-right (leb (r .start .0 + r .length) 262144) _ c) }
+      indexes (r .backing) (and-right (leb (r .start .0 + r .length) 262144) _ c)
     where
       indexes : (k : BackingPages) → shapedKind? r k ≡ true → r .offset + r .length ≤ 1048576
       indexes Nothing e = absurd (false≢true e)
@@ -88,12 +95,12 @@ module _ (live : ℕ) where
 
   -- ---- the loop: the first k ranges are passed
   module _ (l : List PageRange) (n : ℕ) (m : n ≤ length l) where
-    pub rises-turn : (low k : ℕ) → k < n → (shaped? live (getD l k zeroRange) && leb low (from (rangeOf (getD l k zeroRange)))) ≡ true
+    pub rises-turn : (low k : ℕ) → k < n → follows? live low (getD l k zeroRange) ≡ true
         → rises? live low (drop k (take n l)) ≡ rises? live (upto (rangeOf (getD l k zeroRange))) (drop (k + 1) (take n l))
     unfolding rises?
     rises-turn low k h e = rw (left-cons n l k zeroRange h m, e)
 
-    pub rises-fails : (low k : ℕ) → k < n → (shaped? live (getD l k zeroRange) && leb low (from (rangeOf (getD l k zeroRange)))) ≡ false
+    pub rises-fails : (low k : ℕ) → k < n → follows? live low (getD l k zeroRange) ≡ false
         → rises? live low (drop k (take n l)) ≡ false
     unfolding rises?
     rises-fails low k h e = rw (left-cons n l k zeroRange h m, e)

@@ -1,26 +1,30 @@
 -- The slots of a table, one after the other: those in use have ranges that rise, the others are zero.
-use mathlib.Core.Path.{_≡_}
+use mathlib.Core.Path.{_≡_, sym, _∙_}
 use mathlib.Core.Bool.{Bool, true, false, _&&_}
 use mathlib.Core.List.{List}
-use Prim.Native.Nat.{ℕ, _+_, _≤_, _<_, max}
+use Prim.Native.Nat.{ℕ, _+_, _-_, _≤_, _<_, max}
+use native.Mathlib.Nat.{le-refl}
 use native.Mathlib.Omega.{arith}
-use lib.Dec.{eqb, leb, ltb}
-use lib.ListN.{drop, getD, length, take}
-use borrow.Author.Tests.{eqb-true, leb-true, lt-ltb, le-ltb}
+use lib.ListN.{drop, getD, length, length-drop, take}
+use lib.Seq.{getD-drop, take-length}
 use Rattle.table.specs.declared.PageRange.{PageRange}
-use Rattle.lists.specs.Test.{pick, and-left, and-right, by-lt}
+use Rattle.table.specs.declared.BackingPages.{BackingPages}
+use Rattle.table.specs.declared.BackingPages.the-variants.{Nothing, Single, Many}
+use Rattle.lists.specs.Test.{pick, and-left, and-right, by-test}
 use Rattle.lists.specs.Every.{every}
 use Rattle.lists.specs.Rest.{rest-end, rest-fails, rest-turn}
-use Rattle.ranges.specs.Range.{from, upto}
-use Rattle.table.specs.Table.{rangeOf, zeroRange, Small}
-use Rattle.store.specs.Abs.{liveBit}
+use Rattle.ranges.specs.Range.{upto}
+use Rattle.table.specs.Table.{numberOf, rangeOf, zeroRange}
 use Rattle.store.specs.Sound.{zero?}
-use Rattle.sheet.specs.Load.{Kept, Rows}
-use Rattle.sound_ranges.specs.Shape.{rises?, rises-end, rises-fails, rises-turn, shaped?, shaped-small}
+use Rattle.store.specs.Iff.{zero-says}
+use Rattle.sheet.specs.Load.{Emptied, Kept, Rows, kept-then}
+use Rattle.sheet.specs.Sheet.{tagOf}
+use Rattle.sound_ranges.specs.Agree.{every-at}
+use Rattle.sound_ranges.specs.Shape.{follows?, rises?, rises-end, rises-fails, rises-turn, shaped?, shaped-number}
 
--- a slot, used or not
-abbrev pub slot? : ℕ → Bool → ℕ → PageRange → Bool
-slot? live used low r = pick used (shaped? live r && leb low (from (rangeOf r))) (zero? r)
+-- the tag of the backing of a range that is shaped and begins at or after `low`, else 0
+abbrev pub tagged : ℕ → ℕ → PageRange → ℕ
+tagged live low r = pick (follows? live low r) (tagOf (r .backing)) 0
 
 -- the slots from i on, of which the first n are used
 unfoldable pub slots? : ℕ → List PageRange → ℕ → ℕ → ℕ → Bool
@@ -32,44 +36,50 @@ pub record Loaded (l : List PageRange) (w v : List ℕ) : Type 0 where
   pub kept : Kept 0 1536 w v
   pub long : length v ≡ 2579
 
-module _ (live : ℕ) (l : List PageRange) (n : ℕ) (m : n ≤ length l) (low i : ℕ) where
-  abbrev r : PageRange
-  r = getD l i zeroRange
+-- ---- a tag tells whether the range passes
+module _ (live low : ℕ) (r : PageRange) (x : ℕ) (t : x ≡ tagged live low r) where
+  pub tagged-passes : 0 < x → follows? live low r ≡ true
+  tagged-passes h = by-test (follows? live low r) (λ e. e) (λ e. let q : x ≡ 0 = t ∙ rw e in absurd (omega arith))
 
-  used-turn : i < n → slot? live true low (getD l i zeroRange) ≡ true → slots? live l n low i ≡ slots? live l n (upto (rangeOf (getD l i zeroRange))) (i + 1)
+  pub tagged-fails : x ≡ 0 → follows? live low r ≡ false
+  tagged-fails h =
+      by-test (follows? live low r)
+      (λ e.
+      let q : x ≡ tagOf (r .backing) = t ∙ rw e in
+      let p = positive (r .backing) (shaped-number live r (and-left (shaped? live r) _ e)) in
+      absurd (omega arith))
+      (λ e. e)
+    where
+      positive : (k : BackingPages) → 0 < numberOf k → 0 < tagOf k
+      positive Nothing p = p
+      positive (Single b) p = omega arith
+      positive (Many b) p = omega arith
+
+-- ---- a turn of the loop over the slots
+module _ (live : ℕ) (l : List PageRange) (n : ℕ) (m : n ≤ length l) (low i : ℕ) where
+  pub used-turn : i < n → follows? live low (getD l i zeroRange) ≡ true → slots? live l n low i ≡ slots? live l n (upto (rangeOf (getD l i zeroRange))) (i + 1)
   unfolding slots?
   used-turn h e =
       let a : max i n ≡ n = omega arith in
       let b : max (i + 1) n ≡ n = omega arith in
       rw (a, b, rises-turn live l n m low i h e)
 
-  used-fails : i < n → slot? live true low (getD l i zeroRange) ≡ false → slots? live l n low i ≡ false
+  pub used-fails : i < n → follows? live low (getD l i zeroRange) ≡ false → slots? live l n low i ≡ false
   unfolding slots?
   used-fails h e = rw (rises-fails live l n m low i h e)
 
-  rest-next : n ≤ i → i < length l → zero? (getD l i zeroRange) ≡ true → (up : ℕ) → slots? live l n low i ≡ slots? live l n up (i + 1)
+  pub rest-next : n ≤ i → i < length l → zero? (getD l i zeroRange) ≡ true → slots? live l n low i ≡ slots? live l n low (i + 1)
   unfolding slots?
-  rest-next h k e up =
+  rest-next h k e =
       let a : max i n ≡ i = omega arith in
       let b : max (i + 1) n ≡ i + 1 = omega arith in
-      rw (a, b, rises-end live l n m low i h, rises-end live l n m up (i + 1) (omega arith)) (rest-turn zero? l i zeroRange k e)
+      rw (a, b, rises-end live l n m low i h, rises-end live l n m low (i + 1) (omega arith)) (rest-turn zero? l i zeroRange k e)
 
-  rest-wrong : n ≤ i → i < length l → zero? (getD l i zeroRange) ≡ false → slots? live l n low i ≡ false
+  pub rest-wrong : n ≤ i → i < length l → zero? (getD l i zeroRange) ≡ false → slots? live l n low i ≡ false
   unfolding slots?
   rest-wrong h k e =
       let a : max i n ≡ i = omega arith in
       rw (a, rises-end live l n m low i h) (rest-fails zero? l i zeroRange k e)
-
-  -- a turn of the loop
-  pub slots-turn : i < length l → slot? live (ltb i n) low (getD l i zeroRange) ≡ true
-      → slots? live l n low i ≡ slots? live l n (upto (rangeOf (getD l i zeroRange))) (i + 1)
-  slots-turn k e =
-      by-lt i n
-      (λ h. used-turn h (rw (lt-ltb i n h) at e))
-      (λ h. rest-next h k (rw (le-ltb i n h) at e) (upto (rangeOf (getD l i zeroRange))))
-
-  pub slots-fail : i < length l → slot? live (ltb i n) low (getD l i zeroRange) ≡ false → slots? live l n low i ≡ false
-  slots-fail k e = by-lt i n (λ h. used-fails h (rw (lt-ltb i n h) at e)) (λ h. rest-wrong h k (rw (le-ltb i n h) at e))
 
   pub slots-end : n ≤ i → length l ≤ i → slots? live l n low i ≡ true
   unfolding slots?
@@ -77,27 +87,22 @@ module _ (live : ℕ) (l : List PageRange) (n : ℕ) (m : n ≤ length l) (low i
       let a : max i n ≡ i = omega arith in
       rw (a, rises-end live l n m low i h) (rest-end zero? l i k)
 
--- ---- what a slot that passes says
-zero-start : (r : PageRange) → zero? r ≡ true → (r .start .0 ≡ 0) × (r .length ≡ 0) × (r .offset ≡ 0)
-zero-start r h =
-    let a = and-right (eqb (r .object) 0) _ h in
-    let b = and-right (eqb (r .start .0) 0) _ a in
-    let c = and-right (eqb (r .length) 0) _ b in
-    (eqb-true _ _ (and-left (eqb (r .start .0) 0) _ a), eqb-true _ _ (and-left (eqb (r .length) 0) _ b), eqb-true _ _ (and-left (eqb (r .offset) 0) _ c))
+-- ---- the slots in use, and the others
+module _ (l : List PageRange) (n : ℕ) where
+  slots-parts : (live : ℕ) → slots? live l n 0 0 ≡ (rises? live 0 (take n l) && every zero? (drop n l))
+  unfolding slots?
+  slots-parts live = let e : max 0 n ≡ n = omega arith in rw e
 
-shaped-long : (live : ℕ) (r : PageRange) → shaped? live r ≡ true → 1 ≤ r .length
-shaped-long live r h =
-    let a = and-right (leb (r .object) 31) _ h in
-    let b = and-right (liveBit live (r .object)) _ a in
-    leb-true 1 (r .length) (and-left (leb 1 (r .length)) _ b)
+  pub slots-rest : (live : ℕ) → slots? live l n 0 0 ≡ true → every zero? (drop n l) ≡ true
+  slots-rest live e = and-right (rises? live 0 (take n l)) _ (sym (slots-parts live) ∙ e)
 
-module _ (live low : ℕ) (r : PageRange) where
-  pub slot-small : (used : Bool) → slot? live used low r ≡ true → Small r
-  slot-small true h = shaped-small live r (and-left (shaped? live r) _ h)
-  slot-small false h = let z = zero-start r h in record { ends = omega arith; indexes = omega arith }
+  module _ (full : length l ≡ 512) (few : n ≤ 512) (e : every zero? (drop n l) ≡ true) where
+    rest-zero : (i : ℕ) → n ≤ i → i < 512 → getD l i zeroRange ≡ zeroRange
+    rest-zero i h k =
+        let q : n + (i - n) ≡ i = omega arith in
+        let z : zero? (getD (drop n l) (i - n) zeroRange) ≡ true =
+        every-at zero? (drop n l) zeroRange (length (drop n l)) (le-refl _) (rw take-length e) (i - n) (simp length-drop (omega arith)) in
+        zero-says _ (rw (getD-drop n l (i - n) zeroRange, q) at z)
 
-  pub slot-start : (used : Bool) → slot? live used low r ≡ true → r .start .0 < 262144
-  slot-start true h =
-      let s = and-left (shaped? live r) _ h in
-      omega (arith, shaped-small live r s .ends, shaped-long live r s)
-  slot-start false h = let z = zero-start r h in omega arith
+    pub loaded : (w u v : List ℕ) → Rows l n u → Kept 0 1536 w u → Emptied n u v → Loaded l w v
+    loaded w u v R K E = record { rows = E .rows l rest-zero R; kept = kept-then 0 1536 w u v K (E .kept); long = E .long }

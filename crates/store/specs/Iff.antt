@@ -94,7 +94,7 @@ says-rising low [] h = refl
 says-rising low (r ∷ rs) h = true-both _ _ (le-leb _ _ (h .0)) (true-both _ _ (lt-ltb _ _ (h .1)) (says-rising (upto r) rs (h .2)))
 
 -- "unused slots are zero"
-zero-says : (r : PageRange) → zero? r ≡ true → r ≡ zeroRange
+pub zero-says : (r : PageRange) → zero? r ≡ true → r ≡ zeroRange
 zero-says r h =
     let a = both-true _ _ h in
     let b = both-true _ _ (a .1) in

@@ -16,7 +16,7 @@ use Rattle.ranges.specs.Table.{named}
 use Rattle.table.specs.Table.{rangesOf}
 use Rattle.places.specs.Places.{nowhere, placeAt}
 use Rattle.store.specs.Trim.{keptPlace}
-use Rattle.chains.specs.Chains.{Chained}
+use Rattle.chains.specs.Chains.{Chained, keyed}
 use Rattle.columns.specs.Ranges.{Spans, Tags}
 use Rattle.store.specs.Abs.{used}
 use Rattle.sheet.specs.Sheet.{withPlace, withPlaces}
@@ -34,7 +34,7 @@ pub record Told (s : Store) (n : ℕ) (ts xs l : List ℕ) : Type 0 where
   pub few : n ≤ 512
   pub tags : Tags (s .ranges) n ts
   pub spans : Spans (s .ranges) n xs
-  pub chained : Chained ts n (take 1024 l) (drop 1024 l)
+  pub chained : Chained (keyed ts) n (take 1024 l) (drop 1024 l)
   pub long : Long ts xs l
 
 -- the parts that the windows are looked for in

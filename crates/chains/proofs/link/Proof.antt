@@ -3,20 +3,20 @@ use mathlib.Core.Path.{refl}
 use mathlib.Core.Path.{_≡_}
 use Prim.Native.Nat.{_-_, _≤_}
 use lib.ListN.{drop, length, length-set, take}
-use Rattle.chains.specs.Chains.{Chained, linked-next, linked-none}
+use Rattle.chains.specs.Chains.{Chained, keyed, linked-next, linked-none}
 use borrow.Author.Needs.{needs}
 use native.Mathlib.Omega.{arith}
 use Rattle.chains.proofs.link.Statement.{statement}
 use Rattle.chains.proofs.link.Tie as tie
 
 abbrev Inv-loop : tie.InvT-loop
-Inv-loop keys n links₀ i₀ links i = (i ≤ n) × (length links ≡ 2048) × Chained keys i (take 1024 links) (drop 1024 links)
+Inv-loop keys n links₀ i₀ links i = (i ≤ n) × (length links ≡ 2048) × Chained (keyed keys) i (take 1024 links) (drop 1024 links)
 
 abbrev μ-loop : tie.MeasureT-loop
 μ-loop keys n links₀ i₀ links i = n - i
 
 loop-holds : tie.Need-loop-holds Inv-loop μ-loop
-loop-holds c = (search needs, rw (c .pre .2) (search needs), rw (c .pre .2) (linked-none (c .args .keys .now)))
+loop-holds c = (search needs, rw (c .pre .2) (search needs), rw (c .pre .2) (linked-none (keyed (c .args .keys .now))))
 
 mul-h : tie.Need-mul-h Inv-loop μ-loop
 mul-h c = search needs
@@ -63,7 +63,7 @@ loop-again c =
     let l = c .before .before .before .loop in (
       search needs,
       simp length-set (l .inv .1),
-      linked-next k (l .links) (l .i) _ (l .inv .1) (search needs) refl (l .inv .2),
+      linked-next (keyed k) (l .links) (l .i) _ (l .inv .1) (search needs) (omega arith) refl (l .inv .2),
     )
 
 returns : tie.Need-returns Inv-loop μ-loop

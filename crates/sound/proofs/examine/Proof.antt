@@ -3,7 +3,7 @@ use mathlib.Core.Path.{_≡_, refl, sym, _∙_}
 use mathlib.Core.Bool.{false≢true}
 use lib.ListN.{length, length-map}
 use Rattle.store.specs.Sound.{Sized}
-use Rattle.sound.specs.Parts.{counts-says, examined, slots-none, slots-numbers, sound-none, sound-ranges}
+use Rattle.sound.specs.Parts.{counts-says, examined, slots-none, slots-numbers, slots-short, sound-none, sound-ranges}
 use borrow.Author.Needs.{needs}
 use Rattle.sound.proofs.examine.Statement.{statement}
 use Rattle.sound.proofs.examine.Tie as tie
@@ -26,7 +26,7 @@ tests-requires c κs =
     let r = c .before .before .before .before .before .before .load .ensures in
     let t = c .before .before .before .before .before .if2 .taken in
     let T = r .1 t in
-    (n .0, n .1, T .long, slots-numbers s _ T z (n .1) (sym (r .0) ∙ t), search needs, search needs)
+    (n .0, n .1, T .long, slots-numbers s _ T z (n .1) (sym (r .0) ∙ t), slots-short s _ T z (n .1) (sym (r .0) ∙ t), search needs, search needs)
 
 returns : tie.Need-returns
 returns c =

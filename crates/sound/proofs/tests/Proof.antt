@@ -22,7 +22,7 @@ place-tests-requires : tie.Need-place-tests-requires
 place-tests-requires c κs =
     let q = c .before .before .before .before .before .before .before .before .pre in
     let l = c .before .before .before .before .chain-ranges .ensures in
-    (q .0, q .1, record { long = q .2; heads = l .2; chained = l .1 (c .before .before .before .if1 .taken); numbers = q .3 }, q .5)
+    (q .0, record { long = q .2; heads = l .2; few = q .1; chained = l .1 (c .before .before .before .if1 .taken); short = q .4 }, q .3, q .6)
 
 returns : tie.Need-returns
 unfolding agreeing?

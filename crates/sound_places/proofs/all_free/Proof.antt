@@ -1,9 +1,12 @@
--- `sound_places::all_free` meets its contract. The loop's invariant: the first `k` frames pass. The measure is the number of frames left.
+-- `sound_places::all_free` meets its contract. The loop's invariant: where none of the first `k` frames is counted, all of them pass; else some frame fails. The measure is
+-- the number of frames left.
 use mathlib.Core.Path.{_≡_, _∙_}
-use mathlib.Core.Bool.{true}
+use mathlib.Core.Bool.{true, false}
+use mathlib.Core.Logic.{⊎-elim}
 use Prim.Native.Nat.{_+_, _-_, _≤_, _<_}
 use lib.ListN.{getD}
 use borrow.Author.Tests.{eq-eqb, ne-eqb}
+use Rattle.lists.specs.Test.{by-eq}
 use Rattle.lists.specs.Every.{allBelow, below-done, below-fails, below-next, below-zero}
 use Rattle.sound_places.specs.Bits.{word-free, wordKept?}
 use borrow.Author.Needs.{needs}
@@ -12,13 +15,14 @@ use Rattle.sound_places.proofs.all_free.Statement.{statement}
 use Rattle.sound_places.proofs.all_free.Tie as tie
 
 abbrev Inv-loop : tie.InvT-loop
-Inv-loop spots frames first k₀ k = (k ≤ 64) × (allBelow (wordKept? frames spots 18446744073709551615 first) k ≡ true)
+Inv-loop spots frames first n₀ k₀ n k =
+    (n ≤ k) × (k ≤ 64) × (n ≡ 0 → allBelow (wordKept? frames spots 18446744073709551615 first) k ≡ true) × (0 < n → false ≡ allBelow (wordKept? frames spots 18446744073709551615 first) 64)
 
 abbrev μ-loop : tie.MeasureT-loop
-μ-loop spots frames first k₀ k = 64 - k
+μ-loop spots frames first n₀ k₀ n k = 64 - k
 
 loop-holds : tie.Need-loop-holds Inv-loop μ-loop
-loop-holds c = (search needs, below-zero (wordKept? (c .args .frames) (c .args .spots .now) 18446744073709551615 (c .args .first)))
+loop-holds c = (search needs, search needs, λ e. below-zero (wordKept? (c .args .frames) (c .args .spots .now) 18446744073709551615 (c .args .first)), λ h. absurd (omega arith))
 
 add-if1 : tie.Need-add-if1 Inv-loop μ-loop
 add-if1 c = search needs
@@ -29,13 +33,8 @@ mul-if1 c = search needs
 shared-slice-read-if1 : tie.Need-shared-slice-read-if1 Inv-loop μ-loop
 shared-slice-read-if1 c = search needs
 
-returns : tie.Need-returns Inv-loop μ-loop
-returns c =
-    let a = c .before .before .before .before .args in
-    let q = c .before .before .before .before .pre in
-    let l = c .before .before .before .loop in
-    let t = word-free (a .frames) (a .spots .now) (a .first) (l .k) (search needs) (omega (arith, q .1)) ∙ ne-eqb (getD (a .spots .now) (a .first + l .k) 0) 0 (λ e. let h : 0 < getD (a .spots .now) (a .first + l .k) 0 = c .if1 .taken in omega arith) in
-    below-fails (wordKept? (a .frames) (a .spots .now) 18446744073709551615 (a .first)) 64 (l .k) (search needs) t
+add-n : tie.Need-add-n Inv-loop μ-loop
+add-n c = search needs
 
 add-k : tie.Need-add-k Inv-loop μ-loop
 add-k c = search needs
@@ -48,14 +47,19 @@ loop-again c =
     let a = c .before .before .before .before .args in
     let q = c .before .before .before .before .pre in
     let l = c .before .before .before .loop in
-    let t = word-free (a .frames) (a .spots .now) (a .first) (l .k) (search needs) (omega (arith, q .1)) ∙ eq-eqb (getD (a .spots .now) (a .first + l .k) 0) 0 (let h : getD (a .spots .now) (a .first + l .k) 0 ≤ 0 = c .if1 .left in omega arith) in
-    (search needs, below-next (wordKept? (a .frames) (a .spots .now) 18446744073709551615 (a .first)) (l .k) (l .inv .1) t)
+    let e = word-free (a .frames) (a .spots .now) (a .first) (l .k) (search needs) (omega (arith, q .1)) in
+    ⊎-elim
+    (λ w. rw (w .1) (search needs, search needs, λ z. absurd (omega arith), λ h. below-fails (wordKept? (a .frames) (a .spots .now) 18446744073709551615 (a .first)) 64 (l .k) (search needs) (e ∙ ne-eqb (getD (a .spots .now) (a .first + l .k) 0) 0 (λ z. let h : 0 < getD (a .spots .now) (a .first + l .k) 0 = w .0 .taken in omega arith))))
+    (λ w. rw (w .1) (search needs, search needs, λ z. below-next (wordKept? (a .frames) (a .spots .now) 18446744073709551615 (a .first)) (l .k) (l .inv .2 z) (e ∙ eq-eqb (getD (a .spots .now) (a .first + l .k) 0) 0 (let h : getD (a .spots .now) (a .first + l .k) 0 ≤ 0 = w .0 .left in omega arith)), l .inv .3))
+    (c .if1 .came)
 
-returns-2 : tie.Need-returns-2 Inv-loop μ-loop
-returns-2 c =
+returns : tie.Need-returns Inv-loop μ-loop
+returns c =
     let a = c .before .before .args in
     let l = c .before .loop in
-    below-done (wordKept? (a .frames) (a .spots .now) 18446744073709551615 (a .first)) 64 (l .k) (l .inv .1) (search needs) (search needs)
+    by-eq (l .n) 0
+    (λ e. eq-eqb (l .n) 0 e ∙ below-done (wordKept? (a .frames) (a .spots .now) 18446744073709551615 (a .first)) 64 (l .k) (l .inv .2 e) (search needs) (search needs))
+    (λ e. ne-eqb (l .n) 0 e ∙ l .inv .3 (omega arith))
 
 pub all-free-spec : {M : Type 1} → statement M
 all-free-spec =
@@ -67,8 +71,8 @@ all-free-spec =
     add-if1
     mul-if1
     shared-slice-read-if1
-    returns
+    add-n
     add-k
     loop-less
     loop-again
-    returns-2)
+    returns)

@@ -14,10 +14,10 @@ use Rattle.sound_ranges.proofs.agrees.Statement.{statement}
 use Rattle.sound_ranges.proofs.agrees.Tie as tie
 
 abbrev Inv-loop : tie.InvT-loop
-Inv-loop tags links i y k₀ k = Walk (drop 1024 links) (alikeTo tags i) i k
+Inv-loop tags links i first y k₀ k = Walk (drop 1024 links) (alikeTo tags i) i k
 
 abbrev μ-loop : tie.MeasureT-loop
-μ-loop tags links i y k₀ k = k
+μ-loop tags links i first y k₀ k = k
 
 mul-y : tie.Need-mul-y Inv-loop μ-loop
 mul-y c = search needs
@@ -25,28 +25,9 @@ mul-y c = search needs
 shared-slice-read-y : tie.Need-shared-slice-read-y Inv-loop μ-loop
 shared-slice-read-y c = search needs
 
-add-k : tie.Need-add-k Inv-loop μ-loop
-add-k c = search needs
-
-mul-k : tie.Need-mul-k Inv-loop μ-loop
-mul-k c = search needs
-
-element-copy-out-k : tie.Need-element-copy-out-k Inv-loop μ-loop
-element-copy-out-k c = search needs
-
-cast-k : tie.Need-cast-k Inv-loop μ-loop
-cast-k c =
-    let a = c .before .before .before .args in
-    let e = getD-drop 1024 (a .links .now) (a .i) 0 in
-    let w = c .before .before .before .pre .1 .low in
-    let b = c .before .before .before .pre .0 in
-    let d = c .before .before .before .pre .3 in
-    omega arith
-
 loop-holds : tie.Need-loop-holds Inv-loop μ-loop
 loop-holds c =
-    let a = c .before .before .before .args in
-    rw (← getD-drop 1024 (a .links .now) (a .i) 0) (c .before .before .before .pre .1)
+    c .before .before .pre .1
 
 sub-x : tie.Need-sub-x Inv-loop μ-loop
 sub-x c = search needs
@@ -59,10 +40,10 @@ shared-slice-read-x c = search needs
 
 returns : tie.Need-returns Inv-loop μ-loop
 returns c =
-    let a = c .before .before .before .before .before .before .before .args in
+    let a = c .before .before .before .before .before .before .args in
     let l = c .before .before .before .loop in
     let q : allBelow (alikeTo (a .tags .now) (a .i)) (l .k - 1 + 1) ≡ true =
-    same-agrees (a .tags .now) (a .i) (l .k - 1) (omega (arith, l .inv .low)) (c .before .before .before .before .before .before .before .pre .2) (c .if1 .taken) in
+    same-agrees (a .tags .now) (a .i) (l .k - 1) (omega (arith, l .inv .low)) (c .before .before .before .before .before .before .pre .2) (c .if1 .taken) in
     let e : l .k - 1 + 1 ≡ l .k = omega arith in
     sym (rw e at q) ∙ l .inv .same
 
@@ -72,28 +53,28 @@ same-kind-requires c κs = search needs
 sub-k : tie.Need-sub-k Inv-loop μ-loop
 sub-k c = search needs
 
-add-k-2 : tie.Need-add-k-2 Inv-loop μ-loop
-add-k-2 c = search needs
+add-k : tie.Need-add-k Inv-loop μ-loop
+add-k c = search needs
 
-mul-k-2 : tie.Need-mul-k-2 Inv-loop μ-loop
-mul-k-2 c = search needs
+mul-k : tie.Need-mul-k Inv-loop μ-loop
+mul-k c = search needs
 
-element-copy-out-k-2 : tie.Need-element-copy-out-k-2 Inv-loop μ-loop
-element-copy-out-k-2 c = search needs
+element-copy-out-k : tie.Need-element-copy-out-k Inv-loop μ-loop
+element-copy-out-k c = search needs
 
-cast-k-2 : tie.Need-cast-k-2 Inv-loop μ-loop
-cast-k-2 c =
-    let a = c .before .before .before .before .before .before .before .before .before .before .args in
+cast-k : tie.Need-cast-k Inv-loop μ-loop
+cast-k c =
+    let a = c .before .before .before .before .before .before .before .before .before .args in
     let l = c .before .before .before .before .before .before .loop in
     let h = walk-less (drop 1024 (a .links .now)) (alikeTo (a .tags .now) (a .i)) (a .i) (l .k) (l .inv) (search needs) in
     let e = getD-drop 1024 (a .links .now) (l .k - 1) 0 in
     let w = l .inv .low in
-    let p = c .before .before .before .before .before .before .before .before .before .before .pre in
+    let p = c .before .before .before .before .before .before .before .before .before .pre in
     record { fits = omega (arith, p .0, p .3) }
 
 loop-less : tie.Need-loop-less Inv-loop μ-loop
 loop-less c =
-    let a = c .before .before .before .before .before .before .before .before .before .before .args in
+    let a = c .before .before .before .before .before .before .before .before .before .args in
     let l = c .before .before .before .before .before .before .loop in
     let h = walk-less (drop 1024 (a .links .now)) (alikeTo (a .tags .now) (a .i)) (a .i) (l .k) (l .inv) (search needs) in
     let e = getD-drop 1024 (a .links .now) (l .k - 1) 0 in
@@ -101,20 +82,20 @@ loop-less c =
 
 loop-again : tie.Need-loop-again Inv-loop μ-loop
 loop-again c =
-    let a = c .before .before .before .before .before .before .before .before .before .before .args in
+    let a = c .before .before .before .before .before .before .before .before .before .args in
     let l = c .before .before .before .before .before .before .loop in
     rw (← getD-drop 1024 (a .links .now) (l .k - 1) 0)
     (walk-next (drop 1024 (a .links .now)) (alikeTo (a .tags .now) (a .i)) (a .i) (l .k) (l .inv) (search needs) (sym (c .before .before .same-kind .ensures) ∙ c .before .if2 .taken))
 
 returns-2 : tie.Need-returns-2 Inv-loop μ-loop
 returns-2 c =
-    let a = c .before .before .before .before .before .before .before .before .before .args in
+    let a = c .before .before .before .before .before .before .before .before .args in
     let l = c .before .before .before .before .before .loop in
     walk-hit (drop 1024 (a .links .now)) (alikeTo (a .tags .now) (a .i)) (a .i) (l .k) (l .inv) (search needs) (sym (c .before .same-kind .ensures) ∙ c .if2 .left)
 
 returns-3 : tie.Need-returns-3 Inv-loop μ-loop
 returns-3 c =
-    let a = c .before .before .before .before .before .args in
+    let a = c .before .before .before .before .args in
     let l = c .before .loop in
     walk-end (drop 1024 (a .links .now)) (alikeTo (a .tags .now) (a .i)) (a .i) (l .k) (l .inv) (search needs)
 
@@ -126,10 +107,6 @@ agrees-spec =
     μ-loop
     mul-y
     shared-slice-read-y
-    add-k
-    mul-k
-    element-copy-out-k
-    cast-k
     loop-holds
     sub-x
     mul-x
@@ -137,10 +114,10 @@ agrees-spec =
     returns
     same-kind-requires
     sub-k
-    add-k-2
-    mul-k-2
-    element-copy-out-k-2
-    cast-k-2
+    add-k
+    mul-k
+    element-copy-out-k
+    cast-k
     loop-less
     loop-again
     returns-2

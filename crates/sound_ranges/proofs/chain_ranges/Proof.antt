@@ -1,18 +1,19 @@
 -- `sound_ranges::chain_ranges` meets its contract. The loop's invariant: the ranges below `i` pass, and are chained. The measure is the number of ranges left.
 use mathlib.Core.Path.{_≡_, refl, sym, _∙_}
 use mathlib.Core.Bool.{true, false≢true}
-use Prim.Native.Nat.{_-_, _+_, _≤_}
+use mathlib.Core.List.{List}
+use Prim.Native.Nat.{ℕ, _-_, _+_, _≤_}
 use native.Mathlib.Omega.{arith}
-use lib.ListN.{drop, length, length-set, take}
+use lib.ListN.{drop, getD, length, length-set, set, take}
 use borrow.Author.Needs.{needs}
 use Rattle.lists.specs.Every.{allBelow, below-done, below-fails, below-next, below-zero}
-use Rattle.chains.specs.Chains.{Chained, linked-next, linked-none}
+use Rattle.chains.specs.Chains.{Chained, head-le, keyed, linked-here, linked-next, linked-none}
 use Rattle.sound_ranges.specs.Agree.{alikeTo, walk-agree}
 use Rattle.sound_ranges.proofs.chain_ranges.Statement.{statement}
 use Rattle.sound_ranges.proofs.chain_ranges.Tie as tie
 
 abbrev Inv-loop : tie.InvT-loop
-Inv-loop tags count links₀ i₀ links i = (i ≤ count) × (length links ≡ 2048) × Chained tags i (take 1024 links) (drop 1024 links) × (allBelow (λ j. allBelow (alikeTo tags j) j) i ≡ true)
+Inv-loop tags count links₀ i₀ links i = (i ≤ count) × (length links ≡ 2048) × Chained (keyed tags) i (take 1024 links) (drop 1024 links) × (allBelow (λ j. allBelow (alikeTo tags j) j) i ≡ true)
 
 abbrev μ-loop : tie.MeasureT-loop
 μ-loop tags count links₀ i₀ links i = count - i
@@ -20,7 +21,7 @@ abbrev μ-loop : tie.MeasureT-loop
 loop-holds : tie.Need-loop-holds Inv-loop μ-loop
 loop-holds c =
     let a = c .before .args in
-    (search needs, rw (c .before .pre .2) (search needs), rw (c .before .pre .2) (linked-none (a .tags .now)), below-zero (λ j. allBelow (alikeTo (a .tags .now) j) j))
+    (search needs, rw (c .before .pre .2) (search needs), rw (c .before .pre .2) (linked-none (keyed (a .tags .now))), below-zero (λ j. allBelow (alikeTo (a .tags .now) j) j))
 
 mul-h : tie.Need-mul-h Inv-loop μ-loop
 mul-h c = search needs
@@ -28,17 +29,17 @@ mul-h c = search needs
 shared-slice-read-h : tie.Need-shared-slice-read-h Inv-loop μ-loop
 shared-slice-read-h c = search needs
 
-mul-links : tie.Need-mul-links Inv-loop μ-loop
-mul-links c = search needs
+mul-k : tie.Need-mul-k Inv-loop μ-loop
+mul-k c = search needs
 
-element-copy-out-links : tie.Need-element-copy-out-links Inv-loop μ-loop
-element-copy-out-links c = search needs
+element-copy-out-k : tie.Need-element-copy-out-k Inv-loop μ-loop
+element-copy-out-k c = search needs
 
 add-links : tie.Need-add-links Inv-loop μ-loop
 add-links c = search needs
 
-mul-links-2 : tie.Need-mul-links-2 Inv-loop μ-loop
-mul-links-2 c = search needs
+mul-links : tie.Need-mul-links Inv-loop μ-loop
+mul-links c = search needs
 
 element-write-links : tie.Need-element-write-links Inv-loop μ-loop
 element-write-links c = search needs
@@ -49,19 +50,31 @@ cast-links c = search needs
 add-links-2 : tie.Need-add-links-2 Inv-loop μ-loop
 add-links-2 c = search needs
 
-mul-links-3 : tie.Need-mul-links-3 Inv-loop μ-loop
-mul-links-3 c = search needs
+mul-links-2 : tie.Need-mul-links-2 Inv-loop μ-loop
+mul-links-2 c = search needs
 
 element-write-links-2 : tie.Need-element-write-links-2 Inv-loop μ-loop
 element-write-links-2 c = search needs
+
+cast-agrees : tie.Need-cast-agrees Inv-loop μ-loop
+cast-agrees c =
+    let a = c .before .before .before .before .before .before .args in
+    let q = c .before .before .before .before .before .before .pre in
+    let l = c .before .before .before .before .loop in
+    record { fits = omega (arith, q .0, q .1, l .inv .0, head-le (keyed (a .tags .now)) (l .links) (l .i) (keyed (a .tags .now) (l .i)) (omega arith) (l .inv .2)) }
 
 agrees-requires : tie.Need-agrees-requires Inv-loop μ-loop
 agrees-requires c κs =
     let a = c .before .before .before .before .before .before .args in
     let q = c .before .before .before .before .before .before .pre in
     let l = c .before .before .before .before .loop in
-    let C = linked-next (a .tags .now) (l .links) (l .i) _ (l .inv .1) (omega (arith, q .0, q .1)) refl (l .inv .2) in
-    (omega (arith, q .0), walk-agree (a .tags .now) _ (l .i + 1) (l .i) (C .next) (omega arith), l .inv .3, q .1)
+    let h : ℕ = keyed (a .tags .now) (l .i) in
+    let m : List ℕ = set (set (l .links) (1024 + l .i) (getD (l .links) h 0)) h (l .i + 1) in
+    let C : Chained (keyed (a .tags .now)) (l .i + 1) (take 1024 m) (drop 1024 m) =
+    linked-next (keyed (a .tags .now)) (l .links) (l .i) h (l .inv .1) (omega (arith, q .0, q .1)) (omega arith) refl (l .inv .2) in
+    let W = walk-agree (a .tags .now) (drop 1024 m) (l .i + 1) (l .i) (C .next) (omega arith) in
+    let e = linked-here (l .links) (l .i) h (getD (l .links) h 0) (l .i + 1) (l .inv .1) (omega (arith, q .0, q .1)) (omega arith) in
+    (omega (arith, q .0), rw e at W, l .inv .3, q .1)
 
 add-i : tie.Need-add-i Inv-loop μ-loop
 add-i c = search needs
@@ -76,7 +89,7 @@ loop-again c =
     let l = c .before .before .before .before .before .before .loop in (
       search needs,
       simp length-set (l .inv .1),
-      linked-next (a .tags .now) (l .links) (l .i) _ (l .inv .1) (omega (arith, q .0, q .1)) refl (l .inv .2),
+      linked-next (keyed (a .tags .now)) (l .links) (l .i) _ (l .inv .1) (omega (arith, q .0, q .1)) (omega arith) refl (l .inv .2),
       below-next (λ j. allBelow (alikeTo (a .tags .now) j) j) (l .i) (l .inv .3) (sym (c .before .agrees .ensures) ∙ c .if1 .taken),
     )
 
@@ -105,15 +118,16 @@ chain-ranges-spec =
     loop-holds
     mul-h
     shared-slice-read-h
-    mul-links
-    element-copy-out-links
+    mul-k
+    element-copy-out-k
     add-links
-    mul-links-2
+    mul-links
     element-write-links
     cast-links
     add-links-2
-    mul-links-3
+    mul-links-2
     element-write-links-2
+    cast-agrees
     agrees-requires
     add-i
     loop-less
