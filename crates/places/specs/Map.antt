@@ -132,21 +132,20 @@ module _ (n : ℕ) (ps : List Place) where
       past g l = List·getD-eq-default d 0 {n = g / 64} (let e = b .long in omega arith)
 
 -- ---- frames at no backing, counted
-module _ (ps : List Place) (a : ℕ) where
-  module _ (k n : ℕ) (C : Vacant ps a k n) where
-    pub vacant-more : placeAt ps (a + k) .backing ≡ 0 → Vacant ps a (k + 1) (n + 1)
-    vacant-more z = record {
-      few = let l = C .few in omega arith;
-      none = λ e g l. absurd (omega arith);
-      all = λ e g l. by-eq g k (λ q. rw q z) (λ q. C .all (omega arith) g (omega arith));
-    }
+module _ (ps : List Place) (a k n : ℕ) (C : Vacant ps a k n) where
+  pub vacant-more : placeAt ps (a + k) .backing ≡ 0 → Vacant ps a (k + 1) (n + 1)
+  vacant-more z = record {
+    few = let l = C .few in omega arith;
+    none = λ e g l. absurd (omega arith);
+    all = λ e g l. by-eq g k (λ q. rw q z) (λ q. C .all (omega arith) g (omega arith));
+  }
 
-    pub vacant-same : (placeAt ps (a + k) .backing ≡ 0 → ⊥) → Vacant ps a (k + 1) n
-    vacant-same z = record {
-      few = let l = C .few in omega arith;
-      none = λ e g l. by-eq g k (λ q. rw q z) (λ q. C .none e g (omega arith));
-      all = λ e g l. absurd (let m = C .few in omega arith);
-    }
+  pub vacant-same : (placeAt ps (a + k) .backing ≡ 0 → ⊥) → Vacant ps a (k + 1) n
+  vacant-same z = record {
+    few = let l = C .few in omega arith;
+    none = λ e g l. by-eq g k (λ q. rw q z) (λ q. C .none e g (omega arith));
+    all = λ e g l. absurd (let m = C .few in omega arith);
+  }
 
 -- ---- the map as the list of free frames, the highest first
 module _ (n : ℕ) (ps : List Place) (d : List ℕ) (m : FreeMap n ps d) where

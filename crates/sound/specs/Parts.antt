@@ -2,7 +2,7 @@
 use mathlib.Core.Path.{_≡_, refl, sym, ap, _∙_}
 use mathlib.Core.Bool.{Bool, true, false, _&&_}
 use mathlib.Core.List.{List, [], _∷_}
-use Prim.Native.Nat.{ℕ, _+_, _/_, _%_, _≤_, _<_, max}
+use Prim.Native.Nat.{ℕ, _+_, _/_, _%_, _≤_, _<_}
 use native.Mathlib.Omega.{arith}
 use lib.Dec.{ltb, leb, eqb}
 use lib.ListN.{length, length-drop, take, drop, getD}
@@ -25,7 +25,7 @@ use Rattle.sheet.specs.Load.{Rows, Spots, ranges-loaded, spots-kept}
 use Rattle.store.specs.Abs.{used, liveBit}
 use Rattle.store.specs.Sound.{Sized, alike, alone?, bit?, counts?, fine?, idle?, kind?, places?, ranges?, rising?, sound?, stands?, window?, zero?}
 use Rattle.sound_ranges.specs.Agree.{alikeTo, agree-told, every-at}
-use Rattle.sound_ranges.specs.Slots.{slots?, Loaded}
+use Rattle.sound_ranges.specs.Slots.{slots?, slots-parts, Loaded}
 use Rattle.sound_ranges.specs.Shape.{shaped?, shapedKind?, shaped-number, shaped-short, rises?, rises-parts}
 use Rattle.sound_places.specs.Bits.{below-both, kept?}
 use Rattle.sound_places.specs.Alone.{SpotChains, chainAt, chainOf}
@@ -260,13 +260,12 @@ module _ (m n : ℕ) (ws w h : List ℕ) where
     placed-rest q p r = rw (e, p) r
 
 module _ (s : Store) where
-  slots-parts : slots? (s .live) (s .ranges) (s .count) 0 0 ≡ (rises? (s .live) 0 (used s) && rest? s)
-  unfolding slots?
-  slots-parts = let e : max 0 (s .count) ≡ s .count = omega arith in rw e
+  slots-both : slots? (s .live) (s .ranges) (s .count) 0 0 ≡ (rises? (s .live) 0 (used s) && rest? s)
+  slots-both = slots-parts (s .ranges) (s .count) (s .live)
 
   pub slots-none : slots? (s .live) (s .ranges) (s .count) 0 0 ≡ false → false ≡ rangeTests s
   unfolding rangeTests
-  slots-none h = go (rises? (s .live) 0 (used s)) (agree? s) (rest? s) (sym slots-parts ∙ h)
+  slots-none h = go (rises? (s .live) 0 (used s)) (agree? s) (rest? s) (sym slots-both ∙ h)
     where
       go : (r a z : Bool) → (r && z) ≡ false → false ≡ (r && (a && z))
       go false a z e = refl
@@ -278,12 +277,12 @@ module _ (s : Store) where
     m = omega (arith, sizes .ranges)
 
     pub slots-numbers : slots? (s .live) (s .ranges) (s .count) 0 0 ≡ true → (i : ℕ) → i < s .count → Numbered w i
-    slots-numbers h = numbers-told s m (tagsOf w) (sheet-tags s w T few) (and-left (rises? (s .live) 0 (used s)) _ (sym slots-parts ∙ h))
+    slots-numbers h = numbers-told s m (tagsOf w) (sheet-tags s w T few) (and-left (rises? (s .live) 0 (used s)) _ (sym slots-both ∙ h))
 
     pub slots-short : slots? (s .live) (s .ranges) (s .count) 0 0 ≡ true → (i : ℕ) → i < s .count → Short w i
     slots-short h i l =
         let a : every (shaped? (s .live)) (used s) ≡ true =
-        and-left _ _ (sym (rises-parts (s .live) 0 (used s)) ∙ and-left (rises? (s .live) 0 (used s)) _ (sym slots-parts ∙ h)) in
+        and-left _ _ (sym (rises-parts (s .live) 0 (used s)) ∙ and-left (rises? (s .live) 0 (used s)) _ (sym slots-both ∙ h)) in
         let q : shaped? (s .live) (getD (s .ranges) i zeroRange) ≡ true = every-at (shaped? (s .live)) (s .ranges) zeroRange (s .count) m a i l in
         let X = sheet-spans s w T few .each i l in
         omega (arith, X .offset, X .length, shaped-short (s .live) (getD (s .ranges) i zeroRange) q)
@@ -291,7 +290,7 @@ module _ (s : Store) where
     slots-agree : slots? (s .live) (s .ranges) (s .count) 0 0 ≡ true → agreeing? w (s .count) ≡ rangeTests s
     unfolding rangeTests agreeing?
     slots-agree h =
-        agree-told (s .ranges) (tagsOf w) (s .count) m (sheet-tags s w T few) ∙ go (rises? (s .live) 0 (used s)) (agree? s) (rest? s) (sym slots-parts ∙ h)
+        agree-told (s .ranges) (tagsOf w) (s .count) m (sheet-tags s w T few) ∙ go (rises? (s .live) 0 (used s)) (agree? s) (rest? s) (sym slots-both ∙ h)
       where
         go : (r a z : Bool) → (r && z) ≡ true → a ≡ (r && (a && z))
         go r a z e = let b = both-true r z e in rw (b .0, b .1) (unit a)

@@ -89,7 +89,7 @@ module _ (live : ℕ) (l : List PageRange) (n : ℕ) (m : n ≤ length l) (low i
 
 -- ---- the slots in use, and the others
 module _ (l : List PageRange) (n : ℕ) where
-  slots-parts : (live : ℕ) → slots? live l n 0 0 ≡ (rises? live 0 (take n l) && every zero? (drop n l))
+  pub slots-parts : (live : ℕ) → slots? live l n 0 0 ≡ (rises? live 0 (take n l) && every zero? (drop n l))
   unfolding slots?
   slots-parts live = let e : max 0 n ≡ n = omega arith in rw e
 

@@ -7,7 +7,7 @@ ghost use Prim.Native.Nat.{_+_, _≤_, _<_};
 ghost use lib.Dec.{leb};
 ghost use lib.ListN.{drop, length, replicate, take};
 ghost use Rattle.lists.specs.Test.{pick};
-ghost use Rattle.lists.specs.Every.{allBelow, every};
+ghost use Rattle.lists.specs.Every.{allBelow};
 ghost use Rattle.table.specs.Table.{numberOf};
 ghost use Rattle.chains.specs.Chains.{Chained, keyed};
 ghost use Rattle.chains.specs.Walk.{Walk};
@@ -62,7 +62,7 @@ fn kind_tag(k: BackingPages, length: u32, offset: u32) -> u64
 
 // The tag of the backing of a range that is as it should be and begins at or after page `low` of the line, else 0: "Each range belongs to a live object, has length at
 // least 1, ends by page 262,144".
-pub fn row_tag(r: PageRange, live: u32, low: usize) -> u64
+fn row_tag(r: PageRange, live: u32, low: usize) -> u64
     ensures { λ x. ⌜ (x ≡ tagged live low r) × (0 < x → Narrow r) ⌝ }
 {
     let object = r.object;

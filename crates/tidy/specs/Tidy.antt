@@ -4,8 +4,8 @@ use mathlib.Core.Bool.{not}
 use mathlib.Core.List.{List}
 use Prim.Native.Nat.{ℕ, _+_, _*_, _/_, _%_, _≤_, _<_}
 use native.Mathlib.Omega.{arith}
-use lib.ListN.{drop, length, length-drop, getD, take}
-use lib.Seq.{length-take-le, set-getD, take-all}
+use lib.ListN.{drop, length, getD, take}
+use lib.Seq.{set-getD}
 use Rattle.places.specs.declared.Place.{Place}
 use Rattle.store.specs.declared.Store.{Store}
 use Rattle.lists.specs.Test.{by-test}
@@ -21,6 +21,7 @@ use Rattle.columns.specs.Ranges.{Spans, Tags}
 use Rattle.store.specs.Abs.{used}
 use Rattle.sheet.specs.Sheet.{withPlace, withPlaces}
 use Rattle.sound_places.specs.Windows.{Met, Seen, Wide, walk-named, outside}
+use Rattle.sound_places.specs.Words.{heads-long, lines-long, next-long}
 
 -- how long the columns and the links of the ranges are
 pub record Long (ts xs l : List ℕ) : Type 0 where
@@ -39,17 +40,8 @@ pub record Told (s : Store) (n : ℕ) (ts xs l : List ℕ) : Type 0 where
 
 -- the parts that the windows are looked for in
 module _ (w ts xs l : List ℕ) (L : Long ts xs l) where
-  pub next-all : take 1024 (drop 1024 l) ≡ drop 1024 l
-  next-all = take-all 1024 (drop 1024 l) (simp length-drop (omega (arith, L .links)))
-
   pub wide : length w ≡ 2579 → Wide (take 512 w) ts xs (take 1024 l) (take 1024 (drop 1024 l))
-  wide h = record {
-    lines = length-take-le 512 w (omega arith);
-    tags = L .tags;
-    spans = L .spans;
-    heads = length-take-le 1024 l (omega (arith, L .links));
-    next = length-take-le 1024 (drop 1024 l) (simp length-drop (omega (arith, L .links)));
-  }
+  wide h = record { lines = lines-long w h; tags = L .tags; spans = L .spans; heads = heads-long l (L .links); next = next-long l (L .links) }
 
 -- ---- one turn of a loop that puts g of each place in its place: the store S, with the first f places done, is T
 module _ (g : Place → Place) (S T : Store) (f : ℕ) (h : f < length (S .places)) (e : T ≡ withPlaces (mapped g (S .places) f) S) where

@@ -1,5 +1,6 @@
 -- `tidy::window_of` meets its contract.
-use Rattle.tidy.specs.Tidy.{next-all, wide}
+use Rattle.sound_places.specs.Words.{next-all}
+use Rattle.tidy.specs.Tidy.{wide}
 use borrow.Author.Needs.{needs}
 use Rattle.tidy.proofs.window_of.Statement.{statement}
 use Rattle.tidy.proofs.window_of.Tie as tie
@@ -35,14 +36,14 @@ searched-requires : tie.Need-searched-requires
 searched-requires c κs =
     let a = c .before .before .before .before .before .before .before .args in
     let P = c .before .before .before .before .before .before .before .pre in
-    let n = next-all (a .sheet .now) (a .tags .now) (a .spans .now) (a .links .now) (P .1) in
+    let n = next-all (a .links .now) (P .1 .links) in
     (rw n (P .2), wide (a .sheet .now) (a .tags .now) (a .spans .now) (a .links .now) (P .1) (P .0))
 
 returns : tie.Need-returns
 returns c =
     let a = c .before .before .before .before .before .before .before .before .args in
     let P = c .before .before .before .before .before .before .before .before .pre in
-    let n = next-all (a .sheet .now) (a .tags .now) (a .spans .now) (a .links .now) (P .1) in
+    let n = next-all (a .links .now) (P .1 .links) in
     rw n at (c .searched .ensures)
 
 pub window-of-spec : {M : Type 1} → statement M
