@@ -7,6 +7,11 @@ ghost use Prim.Native.Nat.{_≤_, _<_};
 ghost use lib.ListN.{length};
 ghost use Rattle.book.specs.Book.{add, read, write, added, bytes, done};
 ghost use Rattle.calls.specs.With.{DidWith};
+ghost use Rattle.sheet.specs.Sheet.{storeOf};
+ghost use Rattle.seek.specs.Framed.{Charted};
+ghost use Rattle.seek.specs.Held.{Held};
+ghost use Rattle.writes.specs.Going.{Going};
+ghost use Rattle.writes.specs.Written.{Room};
 
 // The frame of an added page; 0 where the call is refused.
 pub struct Added {
@@ -21,7 +26,10 @@ pub fn add(s: Store, pool: &mut [u8], object: u32, page: PageNumber) -> Added
     let mut sheet = [0u64; 2579];
     let mut holders = [0u16; 2048];
     let mut links = [0u16; 2048];
-    let sound = sound::examine(s, &mut sheet, &mut holders, &mut links);
+    sound::load(s, &mut sheet);
+    let ranges = s.ranges;
+    let rows = sound_ranges::rows(ranges, s.count, s.live, &mut sheet);
+    let sound = sound::examine(rows, &sheet, &mut holders, &mut links);
     let k = enter::add(sound, &sheet, pool.len(), object, page);
     if 0 < k {
         return Added {
@@ -57,13 +65,36 @@ pub fn read(s: Store, pool: &[u8], object: u32, offset: usize, buf: &mut [u8]) -
     let mut holders = [0u16; 2048];
     let mut links = [0u16; 2048];
     let n = buf.len();
-    let sound = sound::examine(s, &mut sheet, &mut holders, &mut links);
+    sound::load(s, &mut sheet);
+    let ranges = s.ranges;
+    let rows = sound_ranges::rows(ranges, s.count, s.live, &mut sheet);
+    let sound = sound::examine(rows, &sheet, &mut holders, &mut links);
     let k = enter::read(sound, &sheet, pool.len(), object, offset, n);
     if 0 < k {
         return k;
     }
     fetch::read_pages(&sheet, &links, pool, object, offset, buf);
     0
+}
+
+// Of a write with the number k: the bytes of src written as far as pages are present and private, if it is not refused; how many are written.
+fn overwritten(
+    k: u8,
+    sheet: &[u64; 2579],
+    holders: &[u16; 2048],
+    links: &[u16; 2048],
+    pool: &mut [u8],
+    object: u32,
+    offset: usize,
+    src: &[u8],
+) -> usize
+    requires { ⌜ (k ≡ 0 → (Charted (now sheet) (now links)) × (Room (storeOf (now sheet)) (now pool) object offset (length (now src))) × (Held (now sheet) (now holders))) ⌝ }
+    ensures { λ r. ⌜ (k ≡ 0 → Going (storeOf (now (sheet .entry))) (now (pool .entry)) object offset (now (src .entry)) r (storeOf (now (sheet .entry))) (now (pool .exit))) × (0 < k → now (pool .exit) ≡ now (pool .entry)) ⌝ }
+{
+    if 0 < k {
+        return 0;
+    }
+    fetch::overwrite_pages(sheet, holders, links, pool, object, offset, src)
 }
 
 // The pages that are present and private are written where they are; from the first other one on the store changes.
@@ -74,7 +105,10 @@ pub fn write(s: Store, pool: &mut [u8], object: u32, offset: usize, src: &[u8]) 
     let mut holders = [0u16; 2048];
     let mut links = [0u16; 2048];
     let n = src.len();
-    let sound = sound::examine(s, &mut sheet, &mut holders, &mut links);
+    sound::load(s, &mut sheet);
+    let ranges = s.ranges;
+    let rows = sound_ranges::rows(ranges, s.count, s.live, &mut sheet);
+    let sound = sound::examine(rows, &sheet, &mut holders, &mut links);
     let k = enter::write(
         sound,
         &sheet,
@@ -85,17 +119,11 @@ pub fn write(s: Store, pool: &mut [u8], object: u32, offset: usize, src: &[u8]) 
         offset,
         n,
     );
-    if 0 < k {
+    let done = overwritten(k, &sheet, &holders, &links, pool, object, offset, src);
+    if (0 < k) | (done == n) {
         return Reply {
             store: s,
             number: k,
-        };
-    }
-    let done = fetch::overwrite_pages(&sheet, &holders, &links, pool, object, offset, src);
-    if done == n {
-        return Reply {
-            store: s,
-            number: 0,
         };
     }
     writing::write_pages(&mut sheet, pool, object, offset + done, &src[done..]);

@@ -32,7 +32,10 @@ pub fn new_object(s: Store, object: u32) -> Reply
     let mut sheet = [0u64; 2579];
     let mut holders = [0u16; 2048];
     let mut links = [0u16; 2048];
-    let sound = sound::examine(s, &mut sheet, &mut holders, &mut links);
+    sound::load(s, &mut sheet);
+    let ranges = s.ranges;
+    let rows = sound_ranges::rows(ranges, s.count, s.live, &mut sheet);
+    let sound = sound::examine(rows, &sheet, &mut holders, &mut links);
     let k = enter::new_object(sound, &sheet, object);
     if 0 < k {
         return Reply {
@@ -68,7 +71,10 @@ pub fn look_up(s: Store, object: u32, page: PageNumber) -> Looked
     let mut sheet = [0u64; 2579];
     let mut holders = [0u16; 2048];
     let mut links = [0u16; 2048];
-    let sound = sound::examine(s, &mut sheet, &mut holders, &mut links);
+    sound::load(s, &mut sheet);
+    let ranges = s.ranges;
+    let rows = sound_ranges::rows(ranges, s.count, s.live, &mut sheet);
+    let sound = sound::examine(rows, &sheet, &mut holders, &mut links);
     let k = enter::look_up(sound, &sheet, object, page);
     if 0 < k {
         return Looked {
@@ -116,7 +122,10 @@ pub fn counts(s: Store) -> Numbers
     let mut sheet = [0u64; 2579];
     let mut holders = [0u16; 2048];
     let mut links = [0u16; 2048];
-    if sound::examine(s, &mut sheet, &mut holders, &mut links) {
+    sound::load(s, &mut sheet);
+    let ranges = s.ranges;
+    let rows = sound_ranges::rows(ranges, s.count, s.live, &mut sheet);
+    if sound::examine(rows, &sheet, &mut holders, &mut links) {
         let n = used_count(&sheet, s.frames);
         return Numbers {
             number: 0,
@@ -179,7 +188,10 @@ pub fn drop_object(s: Store, object: u32) -> Reply
     let mut sheet = [0u64; 2579];
     let mut holders = [0u16; 2048];
     let mut links = [0u16; 2048];
-    let sound = sound::examine(s, &mut sheet, &mut holders, &mut links);
+    sound::load(s, &mut sheet);
+    let ranges = s.ranges;
+    let rows = sound_ranges::rows(ranges, s.count, s.live, &mut sheet);
+    let sound = sound::examine(rows, &sheet, &mut holders, &mut links);
     let k = enter::drop_object(sound, &sheet, object);
     if 0 < k {
         return Reply {

@@ -33,7 +33,10 @@ pub fn zero_ranges(s: Store, pool: &mut [u8], object: u32, offset: usize, n: usi
     let mut sheet = [0u64; 2579];
     let mut holders = [0u16; 2048];
     let mut links = [0u16; 2048];
-    let sound = sound::examine(s, &mut sheet, &mut holders, &mut links);
+    sound::load(s, &mut sheet);
+    let ranges = s.ranges;
+    let rows = sound_ranges::rows(ranges, s.count, s.live, &mut sheet);
+    let sound = sound::examine(rows, &sheet, &mut holders, &mut links);
     let k = enter::zero(
         sound,
         &sheet,
@@ -116,7 +119,10 @@ pub fn copy_ranges(
     let mut sheet = [0u64; 2579];
     let mut holders = [0u16; 2048];
     let mut links = [0u16; 2048];
-    let sound = sound::examine(s, &mut sheet, &mut holders, &mut links);
+    sound::load(s, &mut sheet);
+    let ranges = s.ranges;
+    let rows = sound_ranges::rows(ranges, s.count, s.live, &mut sheet);
+    let sound = sound::examine(rows, &sheet, &mut holders, &mut links);
     let k = enter::copy(
         sound,
         &sheet,
@@ -178,7 +184,10 @@ pub fn copy_range_to_shadow(
     let mut sheet = [0u64; 2579];
     let mut holders = [0u16; 2048];
     let mut links = [0u16; 2048];
-    let sound = sound::examine(s, &mut sheet, &mut holders, &mut links);
+    sound::load(s, &mut sheet);
+    let ranges = s.ranges;
+    let rows = sound_ranges::rows(ranges, s.count, s.live, &mut sheet);
+    let sound = sound::examine(rows, &sheet, &mut holders, &mut links);
     let k = enter::shadow(sound, &sheet, pool.len(), source, from, object, to, n);
     if 0 < k {
         return Reply {

@@ -16,7 +16,7 @@ use Rattle.sheet.specs.Sheet.{lineOf, rowSet, spanNumber, spotNumber, sp
 use Rattle.sheet.specs.Edits.{Narrow, count-kept, frames-kept, free-kept, live-kept, places-kept, range-made, ranges-kept}
 
 -- a list is tabulated from its elements
-listed-all : {A : Type 0} (d : A) (l : List A) (n : ℕ) → length l ≡ n → listed (λ k. getD l k d) n ≡ l
+pub listed-all : {A : Type 0} (d : A) (l : List A) (n : ℕ) → length l ≡ n → listed (λ k. getD l k d) n ≡ l
 listed-all d l n e =
     let m = length-listed (λ k. getD l k d) n in
     ext-getD d (listed (λ k. getD l k d) n) l (m ∙ sym e) (λ i h. getD-listed (λ k. getD l k d) n i d (omega (arith, m)))
@@ -90,6 +90,27 @@ pub record Rows (l : List PageRange) (n : ℕ) (w : List ℕ) : Type 0 where
   pub tag : (i : ℕ) → i < n → getD w (1024 + i) 0 ≡ tagOf (getD l i zeroRange .backing)
   pub narrow : (i : ℕ) → i < n → Narrow (getD l i zeroRange)
 
+pub rows-none : (l : List PageRange) (w : List ℕ) → Rows l 0 w
+rows-none l w = record {
+  line = λ i h. absurd (not-suc-le-zero h);
+  span = λ i h. absurd (not-suc-le-zero h);
+  tag = λ i h. absurd (not-suc-le-zero h);
+  narrow = λ i h. absurd (not-suc-le-zero h);
+}
+
+-- the slots from n on are zero
+pub record Blanked (n : ℕ) (w : List ℕ) : Type 0 where
+  pub line : (i : ℕ) → n ≤ i → i < 512 → getD w i 0 ≡ 0
+  pub span : (i : ℕ) → n ≤ i → i < 512 → getD w (512 + i) 0 ≡ 0
+  pub tag : (i : ℕ) → n ≤ i → i < 512 → getD w (1024 + i) 0 ≡ 0
+
+pub blanked-zeros : (w : List ℕ) → ((k : ℕ) → k < 1536 → getD w k 0 ≡ 0) → Blanked 0 w
+blanked-zeros w z = record {
+  line = λ i h m. z i (omega arith);
+  span = λ i h m. z (512 + i) (omega arith);
+  tag = λ i h m. z (1024 + i) (omega arith);
+}
+
 module _ (l : List PageRange) (w : List ℕ) (n : ℕ) (long : length w ≡ 2579) (few : n < 512) where
   abbrev r : PageRange
   r = getD l n zeroRange
@@ -123,6 +144,13 @@ module _ (l : List PageRange) (w : List ℕ) (n : ℕ) (long : length w ≡ 2579
       third : getD v (1024 + n) 0 ≡ tagOf (r .backing)
       third = getD-set-same (set (set w n (lineOf r)) (512 + n) (spanNumber r)) (1024 + n) (tagOf (r .backing)) 0 (simp length-set (omega arith))
 
+  pub blanked-next : Blanked n w → Blanked (n + 1) (rowSet w n (getD l n zeroRange))
+  blanked-next B = record {
+    line = λ i h m. other i (λ q. omega arith) (λ q. omega arith) (λ q. omega arith) ∙ B .line i (omega arith) m;
+    span = λ i h m. other (512 + i) (λ q. omega arith) (λ q. omega arith) (λ q. omega arith) ∙ B .span i (omega arith) m;
+    tag = λ i h m. other (1024 + i) (λ q. omega arith) (λ q. omega arith) (λ q. omega arith) ∙ B .tag i (omega arith) m;
+  }
+
   pub rows-apart : (u : List ℕ) → Kept 0 1536 u w → Kept 0 1536 u (rowSet w n (getD l n zeroRange))
   rows-apart u K = record {
     below = λ k h. absurd (not-suc-le-zero h);
@@ -132,49 +160,13 @@ module _ (l : List PageRange) (w : List ℕ) (n : ℕ) (long : length w ≡ 2579
 narrow-zero : Narrow zeroRange
 narrow-zero = record { object = omega arith; start = omega arith; length = omega arith; offset = omega arith; backing = omega arith }
 
--- ---- numbers set to 0: those from a up to e, and no other
-pub record Cleared (a e : ℕ) (w v : List ℕ) : Type 0 where
-  pub zeros : (k : ℕ) → a ≤ k → k < e → getD v k 0 ≡ 0
-  pub kept : Kept a e w v
-  pub long : length v ≡ 2579
-
-pub cleared-none : (a : ℕ) (w : List ℕ) → length w ≡ 2579 → Cleared a a w w
-cleared-none a w long = record { zeros = λ k h l. omega arith; kept = kept-same a a w; long = long }
-
-pub cleared-next : (a i : ℕ) (w v : List ℕ) → a ≤ i → i < 2579 → Cleared a i w v → Cleared a (i + 1) w (set v i 0)
-cleared-next a i w v h l C = record {
-  zeros = λ k p q. by-eq k i (λ e. rw e (getD-set-same v i 0 0 (omega arith))) (λ e. getD-set-other v i k 0 0 e ∙ C .zeros k p (omega arith));
-  kept = record {
-    below = λ k p. getD-set-other v i k 0 0 (λ q. omega arith) ∙ C .kept .below k p;
-    above = λ k p. getD-set-other v i k 0 0 (λ q. omega arith) ∙ C .kept .above k (omega arith);
-  };
-  long = simp length-set (C .long);
-}
-
--- slots from n on set to zero: a table that is zero from there on is in the sheet if its slots before are
-pub record Emptied (n : ℕ) (w v : List ℕ) : Type 0 where
-  pub rows : (l : List PageRange) → ((i : ℕ) → n ≤ i → i < 512 → getD l i zeroRange ≡ zeroRange) → Rows l n w → Rows l 512 v
-  pub kept : Kept 0 1536 w v
-  pub long : length v ≡ 2579
-
-pub emptied : (n : ℕ) (w x y v : List ℕ) → n ≤ 512 → Cleared n 512 w x → Cleared (512 + n) 1024 x y → Cleared (1024 + n) 1536 y v → Emptied n w v
-emptied n w x y v few A B C = record {
-  rows = λ l z R. record {
-    line = λ i h. C .kept .below i (omega arith) ∙ B .kept .below i (omega arith) ∙ by-lt i n (λ p. A .kept .below i p ∙ R .line i p) (λ p. rw (z i p h) (A .zeros i p h));
-    span = λ i h.
-        C .kept .below (512 + i) (omega arith)
-        ∙ by-lt i n (λ p. B .kept .below (512 + i) (omega arith) ∙ A .kept .above (512 + i) (omega arith) ∙ R .span i p) (λ p. rw (z i p h) (B .zeros (512 + i) (omega arith) (omega arith)));
-    tag = λ i h.
-        by-lt i n
-        (λ p. C .kept .below (1024 + i) (omega arith) ∙ B .kept .above (1024 + i) (omega arith) ∙ A .kept .above (1024 + i) (omega arith) ∙ R .tag i p)
-        (λ p. rw (z i p h) (C .zeros (1024 + i) (omega arith) (omega arith)));
-    narrow = λ i h. by-lt i n (λ p. R .narrow i p) (λ p. rw (z i p h) narrow-zero);
-  };
-  kept = record {
-    below = λ k h. absurd (not-suc-le-zero h);
-    above = λ k h. C .kept .above k h ∙ B .kept .above k (omega arith) ∙ A .kept .above k (omega arith);
-  };
-  long = C .long;
+-- a table that is zero from n on is in the sheet if its slots before are, and those of the sheet are zero from n on
+pub rows-blanked : (l : List PageRange) (n : ℕ) (w : List ℕ) → ((i : ℕ) → n ≤ i → i < 512 → getD l i zeroRange ≡ zeroRange) → Rows l n w → Blanked n w → Rows l 512 w
+rows-blanked l n w z R B = record {
+  line = λ i h. by-lt i n (λ p. R .line i p) (λ p. rw (z i p h) (B .line i p h));
+  span = λ i h. by-lt i n (λ p. R .span i p) (λ p. rw (z i p h) (B .span i p h));
+  tag = λ i h. by-lt i n (λ p. R .tag i p) (λ p. rw (z i p h) (B .tag i p h));
+  narrow = λ i h. by-lt i n (λ p. R .narrow i p) (λ p. rw (z i p h) narrow-zero);
 }
 
 rows-told : (l : List PageRange) (w : List ℕ) → length l ≡ 512 → Rows l 512 w → storeOf w .ranges ≡ l

@@ -17,7 +17,7 @@ ghost use lib.ListN.{length, set};
 ghost use Rattle.table.specs.Table.{numberOf};
 ghost use Rattle.places.specs.Places.{placeAt};
 ghost use Rattle.sheet.specs.Edits.{Narrow};
-ghost use Rattle.sheet.specs.Load.{Cleared, Emptied, Spots};
+ghost use Rattle.sheet.specs.Load.{Kept, Spots};
 ghost use Rattle.sheet.specs.Sheet.{backingOf, rangeAt, rowSet, spotNumber, spotted, storeOf, tagOf, withCount, withFrames, withFree, withLive, withPlace, withPlaces, withRange, withWord, wordAt};
 
 // How many numbers a sheet has.
@@ -76,28 +76,6 @@ pub fn set_range(sheet: &mut [u64; 2579], i: usize, r: PageRange)
     sheet[1024 + i] = x;
 }
 
-// The numbers from `first` up to `end` set to 0.
-fn clear(sheet: &mut [u64; 2579], first: usize, end: usize)
-    requires { ⌜ (length (now sheet) ≡ 2579) × (first ≤ end) × (end ≤ 2579) ⌝ }
-    ensures { λ _. ⌜ Cleared first end (now (sheet .entry)) (now (sheet .exit)) ⌝ }
-{
-    let mut i = first;
-    while i < end {
-        sheet[i] = 0;
-        i += 1;
-    }
-}
-
-// The slots of the table from a slot on set to zero.
-pub fn clear_rows(sheet: &mut [u64; 2579], from: usize)
-    requires { ⌜ (length (now sheet) ≡ 2579) × (from ≤ 512) ⌝ }
-    ensures { λ _. ⌜ Emptied from (now (sheet .entry)) (now (sheet .exit)) ⌝ }
-{
-    clear(sheet, from, 512);
-    clear(sheet, 512 + from, 1024);
-    clear(sheet, 1024 + from, 1536);
-}
-
 // Where frame f stands.
 pub fn place(sheet: &[u64; 2579], f: usize) -> Place
     requires { ⌜ f < 1024 ⌝ }
@@ -154,21 +132,21 @@ pub fn count(sheet: &[u64; 2579]) -> usize
 
 pub fn set_count(sheet: &mut [u64; 2579], n: usize)
     requires { ⌜ length (now sheet) ≡ 2579 ⌝ }
-    ensures { λ _. ⌜ (storeOf (now (sheet .exit)) ≡ withCount n (storeOf (now (sheet .entry)))) × (length (now (sheet .exit)) ≡ 2579) ⌝ }
+    ensures { λ _. ⌜ (storeOf (now (sheet .exit)) ≡ withCount n (storeOf (now (sheet .entry)))) × (length (now (sheet .exit)) ≡ 2579) × Kept 2576 2579 (now (sheet .entry)) (now (sheet .exit)) ⌝ }
 {
     sheet[2578] = n as u64;
 }
 
 pub fn set_frames(sheet: &mut [u64; 2579], n: usize)
     requires { ⌜ length (now sheet) ≡ 2579 ⌝ }
-    ensures { λ _. ⌜ (storeOf (now (sheet .exit)) ≡ withFrames n (storeOf (now (sheet .entry)))) × (length (now (sheet .exit)) ≡ 2579) ⌝ }
+    ensures { λ _. ⌜ (storeOf (now (sheet .exit)) ≡ withFrames n (storeOf (now (sheet .entry)))) × (length (now (sheet .exit)) ≡ 2579) × Kept 2576 2579 (now (sheet .entry)) (now (sheet .exit)) ⌝ }
 {
     sheet[2576] = n as u64;
 }
 
 pub fn set_live(sheet: &mut [u64; 2579], names: u32)
     requires { ⌜ length (now sheet) ≡ 2579 ⌝ }
-    ensures { λ _. ⌜ (storeOf (now (sheet .exit)) ≡ withLive names (storeOf (now (sheet .entry)))) × (length (now (sheet .exit)) ≡ 2579) ⌝ }
+    ensures { λ _. ⌜ (storeOf (now (sheet .exit)) ≡ withLive names (storeOf (now (sheet .entry)))) × (length (now (sheet .exit)) ≡ 2579) × Kept 2576 2579 (now (sheet .entry)) (now (sheet .exit)) ⌝ }
 {
     sheet[2577] = names as u64;
 }
@@ -176,7 +154,7 @@ pub fn set_live(sheet: &mut [u64; 2579], names: u32)
 // The words of a free map put into a sheet.
 pub fn load_words(sheet: &mut [u64; 2579], free: [u64; 16])
     requires { ⌜ length (now sheet) ≡ 2579 ⌝ }
-    ensures { λ _. ⌜ (storeOf (now (sheet .exit)) ≡ withFree free (storeOf (now (sheet .entry)))) × (length (now (sheet .exit)) ≡ 2579) ⌝ }
+    ensures { λ _. ⌜ (storeOf (now (sheet .exit)) ≡ withFree free (storeOf (now (sheet .entry)))) × (length (now (sheet .exit)) ≡ 2579) × Kept 2560 2576 (now (sheet .entry)) (now (sheet .exit)) ⌝ }
 {
     let mut i: usize = 0;
     while i < 16 {
@@ -189,7 +167,7 @@ pub fn load_words(sheet: &mut [u64; 2579], free: [u64; 16])
 // The places of all frames put into a sheet.
 pub fn load_places(sheet: &mut [u64; 2579], places: [Place; 1024])
     requires { ⌜ length (now sheet) ≡ 2579 ⌝ }
-    ensures { λ _. ⌜ (storeOf (now (sheet .exit)) ≡ withPlaces places (storeOf (now (sheet .entry)))) × (length (now (sheet .exit)) ≡ 2579) × Spots places 1024 (now (sheet .exit)) ⌝ }
+    ensures { λ _. ⌜ (storeOf (now (sheet .exit)) ≡ withPlaces places (storeOf (now (sheet .entry)))) × (length (now (sheet .exit)) ≡ 2579) × Spots places 1024 (now (sheet .exit)) × Kept 1536 2560 (now (sheet .entry)) (now (sheet .exit)) ⌝ }
 {
     let mut f: usize = 0;
     while f < 1024 {

@@ -1,44 +1,47 @@
 -- The test of soundness by the parts that the code goes through: the ranges by themselves, then what needs the frames.
-use mathlib.Core.Path.{_≡_, refl, sym, ap, _∙_}
-use mathlib.Core.Bool.{Bool, true, false, _&&_}
+use mathlib.Core.Path.{_≡_, refl, sym, ap, ap₂, _∙_}
+use mathlib.Core.Bool.{Bool, true, false, _&&_, false≢true}
 use mathlib.Core.List.{List, [], _∷_}
 use Prim.Native.Nat.{ℕ, _+_, _/_, _%_, _≤_, _<_}
 use native.Mathlib.Omega.{arith}
 use lib.Dec.{ltb, leb, eqb}
-use lib.ListN.{length, length-drop, take, drop, getD}
-use lib.Seq.{getD-take, length-take-le}
-use borrow.Author.Tests.{leb-true}
+use lib.ListN.{length, length-drop, take, drop, getD, getD-replicate, replicate}
+use lib.Seq.{getD-drop, getD-take, length-take-le}
+use borrow.Author.Tests.{le-leb, leb-true}
 use Rattle.table.specs.declared.PageRange.{PageRange}
 use Rattle.table.specs.declared.BackingPages.{BackingPages}
 use Rattle.table.specs.declared.BackingPages.the-variants.{Nothing, Single, Many}
 use Rattle.places.specs.declared.Place.{Place}
 use Rattle.store.specs.declared.Store.{Store}
-use Rattle.lists.specs.Test.{and-left, by-test}
-use Rattle.lists.specs.Every.{allBelow, both-true, every}
+use Rattle.lists.specs.Test.{and-left, and-right, by-test}
+use Rattle.lists.specs.Every.{allBelow, below-at, both-true, every}
+use Rattle.lists.specs.Listed.{listed-ext}
 use Rattle.table.specs.Table.{numberOf, rangesOf, zeroRange}
 use Rattle.places.specs.Places.{placeAt}
 use Rattle.chains.specs.Chains.{Chained, chained-alike, keyed}
 use Rattle.columns.specs.Columns.{spotOf, spots-done, spotted}
 use Rattle.columns.specs.Ranges.{Tag, Tags, Spans, span-told, tag-many, tag-nothing, tag-single}
 use Rattle.sheet.specs.Sheet.{spanNumber, storeOf, tagOf, withCount, withFrames, withFree, withLive, withPlaces, withRanges}
-use Rattle.sheet.specs.Load.{Rows, Spots, ranges-loaded, spots-kept}
+use Rattle.sheet.specs.Edits.{count-kept, frames-kept}
+use Rattle.sheet.specs.Load.{Blanked, Kept, Rows, Spots, blanked-zeros, listed-all, ranges-loaded, spots-kept}
 use Rattle.store.specs.Abs.{used, liveBit}
 use Rattle.store.specs.Sound.{Sized, alike, alone?, bit?, counts?, fine?, idle?, kind?, places?, ranges?, rising?, sound?, stands?, window?, zero?}
-use Rattle.sound_ranges.specs.Agree.{alikeTo, agree-told, every-at}
+use Rattle.sound_ranges.specs.Agree.{alikeTo, agree-told}
+use Rattle.sound_ranges.specs.Fit.{fit-told, fitting-number, fitting-short, fittingAt}
 use Rattle.sound_ranges.specs.Slots.{slots?, slots-parts, Loaded}
-use Rattle.sound_ranges.specs.Shape.{shaped?, shapedKind?, shaped-number, shaped-short, rises?, rises-parts}
+use Rattle.sound_ranges.specs.Shape.{lies?, shapedKind?, rises?, rises-parts}
 use Rattle.sound_places.specs.Bits.{below-both, kept?}
 use Rattle.sound_places.specs.Alone.{SpotChains, chainAt, chainOf}
 use Rattle.sound_places.specs.Seats.{seated?, seatedAt, seated-told}
 use Rattle.sound_places.specs.Windows.{walked?, walks-windows}
 use Rattle.sound_places.specs.Words.{Short, placedAt?, span-word, spansOf, spot-word, spotsOf, tag-word, tagsOf}
 
--- ---- the two parts of the test of a range
+-- ---- the three parts of the test of a range
 module _ (live n : ℕ) (ps : List Place) where
-  fine-parts : (r : PageRange) → fine? live n ps r ≡ (shaped? live r && seated? n ps (r .backing))
+  fine-parts : (r : PageRange) → fine? live n ps r ≡ (lies? live r && (shapedKind? r (r .backing) && seated? n ps (r .backing)))
   fine-parts r =
       ap (λ k. leb (r .object) 31 && (liveBit live (r .object) && (leb 1 (r .length) && (leb (r .start .0 + r .length) 262144 && k)))) (kinds (r .backing))
-      ∙ out (leb (r .object) 31) (liveBit live (r .object)) (leb 1 (r .length)) (leb (r .start .0 + r .length) 262144) (shapedKind? r (r .backing)) (seated? n ps (r .backing))
+      ∙ out (leb (r .object) 31) (liveBit live (r .object)) (leb 1 (r .length)) (leb (r .start .0 + r .length) 262144) (shapedKind? r (r .backing) && seated? n ps (r .backing))
     where
       single : (a b c d : Bool) → (a && (b && (c && d))) ≡ ((a && (b && c)) && d)
       single false b c d = refl
@@ -54,35 +57,43 @@ module _ (live n : ℕ) (ps : List Place) where
       kinds (Single b) = single (ltb 0 b) (eqb (r .length) 1) (eqb (r .offset) 0) (stands? ps n b 0)
       kinds (Many b) = sym (unit (ltb 0 b && leb (r .offset + r .length) 1048576))
 
-      out : (a b c d k s : Bool) → (a && (b && (c && (d && (k && s))))) ≡ ((a && (b && (c && (d && k)))) && s)
-      out false b c d k s = refl
-      out true false c d k s = refl
-      out true true false d k s = refl
-      out true true true false k s = refl
-      out true true true true k s = refl
+      out : (a b c d k : Bool) → (a && (b && (c && (d && k)))) ≡ ((a && (b && (c && d))) && k)
+      out false b c d k = refl
+      out true false c d k = refl
+      out true true false d k = refl
+      out true true true d k = refl
 
-  all-fine-parts : (l : List PageRange) → every (fine? live n ps) l ≡ (every (shaped? live) l && every (λ r. seated? n ps (r .backing)) l)
+  all-fine-parts : (l : List PageRange)
+      → every (fine? live n ps) l ≡ (every (lies? live) l && (every (λ r. shapedKind? r (r .backing)) l && every (λ r. seated? n ps (r .backing)) l))
   unfolding every
   all-fine-parts [] = refl
   all-fine-parts (r ∷ rs) =
-      rw (fine-parts r, all-fine-parts rs) (swap (shaped? live r) (seated? n ps (r .backing)) (every (shaped? live) rs) (every (λ r. seated? n ps (r .backing)) rs))
+      rw (fine-parts r, all-fine-parts rs)
+      (swap (lies? live r) (shapedKind? r (r .backing)) (seated? n ps (r .backing)) (every (lies? live) rs) (every (λ r. shapedKind? r (r .backing)) rs) (every (λ r. seated? n ps (r .backing)) rs))
     where
-      swap : (a b c d : Bool) → ((a && b) && (c && d)) ≡ ((a && c) && (b && d))
-      swap false b c d = refl
-      swap true true c d = refl
-      swap true false false d = refl
-      swap true false true d = refl
+      swap : (a b c d e f : Bool) → ((a && (b && c)) && (d && (e && f))) ≡ ((a && d) && ((b && e) && (c && f)))
+      swap false b c d e f = refl
+      swap true false c false e f = refl
+      swap true false c true e f = refl
+      swap true true false false e f = refl
+      swap true true false true false f = refl
+      swap true true false true true f = refl
+      swap true true true false e f = refl
+      swap true true true true e f = refl
 
 module _ (s : Store) where
   abbrev agree? : Bool
   agree? = every (λ a. every (λ b. alike (a .backing) (b .backing)) (used s)) (used s)
+
+  abbrev kinds? : Bool
+  kinds? = every (λ r. shapedKind? r (r .backing)) (used s)
 
   abbrev rest? : Bool
   rest? = every zero? (drop (s .count) (s .ranges))
 
   -- the ranges by themselves
   unfoldable pub rangeTests : Bool
-  rangeTests = rises? (s .live) 0 (used s) && (agree? && rest?)
+  rangeTests = rises? (s .live) 0 (used s) && ((kinds? && agree?) && rest?)
 
   -- what needs the frames
   unfoldable pub placeTests : Bool
@@ -92,21 +103,35 @@ module _ (s : Store) where
   unfolding rangeTests placeTests ranges?
   tests-parts =
       rw (rises-parts (s .live) 0 (used s), all-fine-parts (s .live) (s .frames) (s .places) (used s))
-      (sort (every (shaped? (s .live)) (used s)) (rising? 0 (rangesOf (used s))) (agree? && rest?) (every (λ r. seated? (s .frames) (s .places) (r .backing)) (used s)) (places? s))
+      (sort (every (lies? (s .live)) (used s)) (rising? 0 (rangesOf (used s))) kinds? agree? rest? (every (λ r. seated? (s .frames) (s .places) (r .backing)) (used s)) (places? s))
     where
-      sort : (a b c d e : Bool) → (((a && b) && c) && (d && e)) ≡ (((a && d) && (b && c)) && e)
-      sort false b c d e = refl
-      sort true false c true e = refl
-      sort true false c false e = refl
-      sort true true false true e = refl
-      sort true true false false e = refl
-      sort true true true true e = refl
-      sort true true true false e = refl
+      sort : (a b k g z d e : Bool) → (((a && b) && ((k && g) && z)) && (d && e)) ≡ (((a && (k && d)) && (b && (g && z))) && e)
+      sort false b k g z d e = refl
+      sort true false false g z d e = refl
+      sort true false true g z false e = refl
+      sort true false true g z true e = refl
+      sort true true false g z d e = refl
+      sort true true true false z false e = refl
+      sort true true true false z true e = refl
+      sort true true true true false false e = refl
+      sort true true true true false true e = refl
+      sort true true true true true false e = refl
+      sort true true true true true true e = refl
 
 -- ---- the tests of a sheet
 -- range i has a backing with a number
 abbrev pub Numbered : List ℕ → ℕ → Type 0
 Numbered w i = 0 < getD (tagsOf w) i 0 % 4294967296
+
+-- the words of the free map
+abbrev pub wordsOf : List ℕ → List ℕ
+wordsOf w = take 16 (drop 2560 w)
+
+pub words-of : (w : List ℕ) → length w ≡ 2579 → storeOf w .free ≡ wordsOf w
+unfolding storeOf
+words-of w long =
+    listed-ext _ _ 16 (λ i h. sym (getD-take 16 (drop 2560 w) i 0 h ∙ getD-drop 2560 w i 0))
+    ∙ listed-all 0 (wordsOf w) 16 (length-take-le 16 (drop 2560 w) (simp length-drop (omega arith)))
 
 -- a store in its sheet
 pub record Told (s : Store) (w : List ℕ) : Type 0 where
@@ -124,16 +149,16 @@ pub record Chains (w : List ℕ) (n : ℕ) (h : List ℕ) : Type 0 where
 
 -- the tests, of a sheet
 unfoldable pub agreeing? : List ℕ → ℕ → Bool
-agreeing? w n = allBelow (λ i. allBelow (alikeTo (tagsOf w) i) i) n
+agreeing? w n = allBelow (fittingAt (tagsOf w) (spansOf w)) n && allBelow (λ i. allBelow (alikeTo (tagsOf w) i) i) n
 
-unfoldable pub placed? : ℕ → ℕ → List ℕ → List ℕ → List ℕ → Bool
-placed? m n ws w h =
-    allBelow (kept? m (spotsOf w) ws) 1024 && (allBelow (placedAt? w h) m && allBelow (seatedAt (tagsOf w) (spotted (spotsOf w)) m) n)
+unfoldable pub placed? : ℕ → ℕ → List ℕ → List ℕ → Bool
+placed? m n w h =
+    allBelow (kept? m (spotsOf w) (wordsOf w)) 1024 && (allBelow (placedAt? w h) m && allBelow (seatedAt (tagsOf w) (spotted (spotsOf w)) m) n)
 
 -- what the tests of a sheet say
-pub record Tested (m n : ℕ) (ws w : List ℕ) (q : Bool) (h l : List ℕ) : Type 0 where
+pub record Tested (m n : ℕ) (w : List ℕ) (q : Bool) (h l : List ℕ) : Type 0 where
   pub chains : agreeing? w n ≡ true → Chains w n h
-  pub answer : q ≡ (agreeing? w n && placed? m n ws w h)
+  pub answer : q ≡ (agreeing? w n && placed? m n w h)
   pub framed : q ≡ true → SpotChains (spotsOf w) m (take 1024 l) (drop 1024 l)
 
 -- a sound store in its sheet, with its frames chained
@@ -142,14 +167,23 @@ pub record Examined (s : Store) (w l : List ℕ) : Type 0 where
   pub long : length w ≡ 2579
   pub framed : SpotChains (drop 1536 w) (s .frames) (take 1024 l) (drop 1024 l)
 
-module _ (s : Store) (m : s .count ≤ length (s .ranges)) (ts : List ℕ) (T : Tags (s .ranges) (s .count) ts) where
-  -- backings are numbered from 1
-  pub numbers-told : rises? (s .live) 0 (used s) ≡ true → (i : ℕ) → i < s .count → 0 < getD ts i 0 % 4294967296
-  numbers-told h i l =
-      let a : every (shaped? (s .live)) (used s) ≡ true = and-left _ _ (sym (rises-parts (s .live) 0 (used s)) ∙ h) in
-      let q : shaped? (s .live) (getD (s .ranges) i zeroRange) ≡ true = every-at (shaped? (s .live)) (s .ranges) zeroRange (s .count) m a i l in
-      omega (arith, T .each i l .number, shaped-number (s .live) (getD (s .ranges) i zeroRange) q)
+-- what a sheet that passes the first tests tells of its ranges
+module _ (w : List ℕ) (n : ℕ) (e : agreeing? w n ≡ true) (i : ℕ) (l : i < n) where
+  fitted : fittingAt (tagsOf w) (spansOf w) i ≡ true
+  unfolding agreeing?
+  fitted = below-at (fittingAt (tagsOf w) (spansOf w)) n (and-left _ _ e) i l
 
+  pub agreeing-number : Numbered w i
+  agreeing-number = fitting-number (getD (tagsOf w) i 0) (getD (spansOf w) i 0) fitted
+
+  pub agreeing-short : Short w i
+  agreeing-short = fitting-short (getD (tagsOf w) i 0) (getD (spansOf w) i 0) fitted
+
+-- what the test of soundness tells of store s: whether it is sound (q), and then the store is in its sheet
+abbrev pub Outcome : Store → Bool → List ℕ → List ℕ → List ℕ → Type 0
+Outcome s q w h l = (q ≡ sound? s) × Sized s × (q ≡ true → Examined s w l) × (q ≡ true → Chains w (s .count) h)
+
+module _ (s : Store) (m : s .count ≤ length (s .ranges)) (ts : List ℕ) (T : Tags (s .ranges) (s .count) ts) where
   pub places-told : (xs hs ns ss : List ℕ) → Spans (s .ranges) (s .count) xs → Chained (keyed ts) (s .count) hs ns → spotted ss ≡ s .places → (a b d e : Bool)
       → a ≡ allBelow (λ f. idle? (s .frames) f (placeAt (spotted ss) f) && bit? (s .frames) (spotted ss) (s .free) f) 1024
       → b ≡ allBelow (alone? (spotted ss)) (s .frames) → d ≡ allBelow (seatedAt ts (spotted ss) (s .frames)) (s .count)
@@ -245,17 +279,17 @@ module _ (s : Store) where
   sound-ranges a h e p = rw (h, ← tests-parts s, ← p, e)
 
 -- ---- the tests put together
-module _ (m n : ℕ) (ws w h : List ℕ) where
-  pub placed-none : allBelow (kept? m (spotsOf w) ws) 1024 ≡ false → false ≡ placed? m n ws w h
+module _ (m n : ℕ) (w h : List ℕ) where
+  pub placed-none : allBelow (kept? m (spotsOf w) (wordsOf w)) 1024 ≡ false → false ≡ placed? m n w h
   unfolding placed?
   placed-none e = rw e
 
-  module _ (e : allBelow (kept? m (spotsOf w) ws) 1024 ≡ true) where
-    pub placed-some : allBelow (placedAt? w h) m ≡ false → false ≡ placed? m n ws w h
+  module _ (e : allBelow (kept? m (spotsOf w) (wordsOf w)) 1024 ≡ true) where
+    pub placed-some : allBelow (placedAt? w h) m ≡ false → false ≡ placed? m n w h
     unfolding placed?
     placed-some q = rw (e, q)
 
-    pub placed-rest : (q : Bool) → allBelow (placedAt? w h) m ≡ true → q ≡ allBelow (seatedAt (tagsOf w) (spotted (spotsOf w)) m) n → q ≡ placed? m n ws w h
+    pub placed-rest : (q : Bool) → allBelow (placedAt? w h) m ≡ true → q ≡ allBelow (seatedAt (tagsOf w) (spotted (spotsOf w)) m) n → q ≡ placed? m n w h
     unfolding placed?
     placed-rest q p r = rw (e, p) r
 
@@ -265,7 +299,7 @@ module _ (s : Store) where
 
   pub slots-none : slots? (s .live) (s .ranges) (s .count) 0 0 ≡ false → false ≡ rangeTests s
   unfolding rangeTests
-  slots-none h = go (rises? (s .live) 0 (used s)) (agree? s) (rest? s) (sym slots-both ∙ h)
+  slots-none h = go (rises? (s .live) 0 (used s)) (kinds? s && agree? s) (rest? s) (sym slots-both ∙ h)
     where
       go : (r a z : Bool) → (r && z) ≡ false → false ≡ (r && (a && z))
       go false a z e = refl
@@ -276,21 +310,11 @@ module _ (s : Store) where
     m : s .count ≤ length (s .ranges)
     m = omega (arith, sizes .ranges)
 
-    pub slots-numbers : slots? (s .live) (s .ranges) (s .count) 0 0 ≡ true → (i : ℕ) → i < s .count → Numbered w i
-    slots-numbers h = numbers-told s m (tagsOf w) (sheet-tags s w T few) (and-left (rises? (s .live) 0 (used s)) _ (sym slots-both ∙ h))
-
-    pub slots-short : slots? (s .live) (s .ranges) (s .count) 0 0 ≡ true → (i : ℕ) → i < s .count → Short w i
-    slots-short h i l =
-        let a : every (shaped? (s .live)) (used s) ≡ true =
-        and-left _ _ (sym (rises-parts (s .live) 0 (used s)) ∙ and-left (rises? (s .live) 0 (used s)) _ (sym slots-both ∙ h)) in
-        let q : shaped? (s .live) (getD (s .ranges) i zeroRange) ≡ true = every-at (shaped? (s .live)) (s .ranges) zeroRange (s .count) m a i l in
-        let X = sheet-spans s w T few .each i l in
-        omega (arith, X .offset, X .length, shaped-short (s .live) (getD (s .ranges) i zeroRange) q)
-
     slots-agree : slots? (s .live) (s .ranges) (s .count) 0 0 ≡ true → agreeing? w (s .count) ≡ rangeTests s
     unfolding rangeTests agreeing?
     slots-agree h =
-        agree-told (s .ranges) (tagsOf w) (s .count) m (sheet-tags s w T few) ∙ go (rises? (s .live) 0 (used s)) (agree? s) (rest? s) (sym slots-both ∙ h)
+        ap₂ _&&_ (fit-told (s .ranges) (tagsOf w) (spansOf w) (s .count) m (sheet-tags s w T few) (sheet-spans s w T few)) (agree-told (s .ranges) (tagsOf w) (s .count) m (sheet-tags s w T few))
+        ∙ go (rises? (s .live) 0 (used s)) (kinds? s && agree? s) (rest? s) (sym slots-both ∙ h)
       where
         go : (r a z : Bool) → (r && z) ≡ true → a ≡ (r && (a && z))
         go r a z e = let b = both-true r z e in rw (b .0, b .1) (unit a)
@@ -300,10 +324,12 @@ module _ (s : Store) where
             unit false = refl
 
     placed-told : (hs : List ℕ) → Chained (keyed (tagsOf w)) (s .count) (take 1024 hs) (drop 1024 hs)
-        → placed? (s .frames) (s .count) (s .free) w hs ≡ placeTests s
+        → placed? (s .frames) (s .count) w hs ≡ placeTests s
     unfolding placed?
     placed-told hs C =
-        ap (λ (q : Bool). allBelow (kept? (s .frames) (spotsOf w) (s .free)) 1024 && (q && allBelow (seatedAt (tagsOf w) (spotted (spotsOf w)) (s .frames)) (s .count)))
+        ap (λ (ws : List ℕ). allBelow (kept? (s .frames) (spotsOf w) ws) 1024 && (allBelow (placedAt? w hs) (s .frames) && allBelow (seatedAt (tagsOf w) (spotted (spotsOf w)) (s .frames)) (s .count)))
+        (sym (words-of w (T .long)) ∙ ap (λ (t : Store). t .free) (T .store))
+        ∙ ap (λ (q : Bool). allBelow (kept? (s .frames) (spotsOf w) (s .free)) 1024 && (q && allBelow (seatedAt (tagsOf w) (spotted (spotsOf w)) (s .frames)) (s .count)))
         (below-both (alone? (spotted (spotsOf w))) (λ f. walked? (tagsOf w) (spansOf w) (take 1024 hs) (placeAt (spotted (spotsOf w)) f)) (s .frames))
         ∙ swap (allBelow (kept? (s .frames) (spotsOf w) (s .free)) 1024) (allBelow (alone? (spotted (spotsOf w))) (s .frames))
         (allBelow (λ f. walked? (tagsOf w) (spansOf w) (take 1024 hs) (placeAt (spotted (spotsOf w)) f)) (s .frames))
@@ -318,8 +344,7 @@ module _ (s : Store) where
         swap true true false true = refl
         swap true true false false = refl
 
-    pub examined : (q : Bool) (hs l : List ℕ) → counts? s ≡ true → slots? (s .live) (s .ranges) (s .count) 0 0 ≡ true → Tested (s .frames) (s .count) (s .free) w q hs l
-        → (q ≡ sound? s) × Sized s × (q ≡ true → Examined s w l) × (q ≡ true → Chains w (s .count) hs)
+    pub examined : (q : Bool) (hs l : List ℕ) → counts? s ≡ true → slots? (s .live) (s .ranges) (s .count) 0 0 ≡ true → Tested (s .frames) (s .count) w q hs l → Outcome s q w hs l
     examined q hs l h z E =
         let n = counts-says s h in (
           by-test (agreeing? w (s .count))
@@ -331,14 +356,79 @@ module _ (s : Store) where
         )
 
 -- ---- a store put into a sheet, part by part
-pub loaded-told : (s : Store) (w₀ w₁ w₂ w₃ w₄ w₅ w₆ : List ℕ) → length (s .ranges) ≡ 512 → storeOf w₁ ≡ withFrames (s .frames) (storeOf w₀)
-    → storeOf w₂ ≡ withLive (s .live) (storeOf w₁) → storeOf w₃ ≡ withCount (s .count) (storeOf w₂) → storeOf w₄ ≡ withFree (s .free) (storeOf w₃)
-    → storeOf w₅ ≡ withPlaces (s .places) (storeOf w₄) → Spots (s .places) 1024 w₅ → Loaded (s .ranges) w₅ w₆ → Told s w₆
-loaded-told s w₀ w₁ w₂ w₃ w₄ w₅ w₆ m e₁ e₂ e₃ e₄ e₅ S L =
+-- all but its ranges
+pub record Laid (s : Store) (w : List ℕ) : Type 0 where
+  pub sized : Sized s
+  pub long : length w ≡ 2579
+  pub store : (t : List PageRange) → withRanges t (storeOf w) ≡ withRanges t s
+  pub spots : Spots (s .places) 1024 w
+  pub blank : Blanked 0 w
+
+pub laid : (s : Store) (w₀ w₁ w₂ w₃ w₄ w₅ : List ℕ) → Sized s → w₀ ≡ replicate 2579 0 → storeOf w₁ ≡ withFrames (s .frames) (storeOf w₀) → Kept 2576 2579 w₀ w₁
+    → storeOf w₂ ≡ withLive (s .live) (storeOf w₁) → Kept 2576 2579 w₁ w₂ → storeOf w₃ ≡ withCount (s .count) (storeOf w₂) → Kept 2576 2579 w₂ w₃
+    → storeOf w₄ ≡ withFree (s .free) (storeOf w₃) → Kept 2560 2576 w₃ w₄
+    → storeOf w₅ ≡ withPlaces (s .places) (storeOf w₄) → Kept 1536 2560 w₄ w₅ → Spots (s .places) 1024 w₅ → length w₅ ≡ 2579 → Laid s w₅
+laid s w₀ w₁ w₂ w₃ w₄ w₅ z r e₁ k₁ e₂ k₂ e₃ k₃ e₄ k₄ e₅ k₅ S n =
     let e = e₅ ∙ ap (withPlaces (s .places)) (e₄ ∙ ap (withFree (s .free)) (e₃ ∙ ap (withCount (s .count)) (e₂ ∙ ap (withLive (s .live)) e₁))) in
     record {
-      store = ranges-loaded (s .ranges) w₅ w₆ m (L .rows) (L .kept) ∙ ap (withRanges (s .ranges)) e;
-      long = L .long;
-      rows = L .rows;
-      spots = spots-kept (s .places) 1024 w₅ w₆ (L .kept) S;
+      sized = z;
+      long = n;
+      store = λ t. ap (withRanges t) e;
+      spots = S;
+      blank = blanked-zeros w₅
+          (λ k l. k₅ .below k l ∙ k₄ .below k (omega arith) ∙ k₃ .below k (omega arith) ∙ k₂ .below k (omega arith) ∙ k₁ .below k (omega arith) ∙ rw r (getD-replicate 2579 k 0 0 (omega arith)));
     }
+
+-- and its ranges, if they lie as they should
+pub record Brought (s : Store) (q : Bool) (w : List ℕ) : Type 0 where
+  pub sized : Sized s
+  pub rows : q ≡ (leb (s .count) 512 && slots? (s .live) (s .ranges) (s .count) 0 0)
+  pub told : q ≡ true → Told s w
+  pub frames : storeOf w .frames ≡ s .frames
+  pub count : storeOf w .count ≡ s .count
+
+pub brought : {s : Store} {q : Bool} {w v : List ℕ} → Laid s w
+    → (q ≡ (leb (s .count) 512 && slots? (s .live) (s .ranges) (s .count) 0 0)) × (q ≡ true → Loaded (s .ranges) w v) × (length v ≡ 2579) × Kept 0 1536 w v → Brought s q v
+brought {s} {q} {w} {v} A R = record {
+  sized = A .sized;
+  rows = R .0;
+  told = λ e.
+      let L = R .1 e in
+      record {
+        store = ranges-loaded (s .ranges) w v (A .sized .ranges) (L .rows) (L .kept) ∙ A .store (s .ranges);
+        long = L .long;
+        rows = L .rows;
+        spots = spots-kept (s .places) 1024 w v (L .kept) (A .spots);
+      };
+  frames = frames-kept w v (R .3 .above 2576 (omega arith)) ∙ ap (λ (t : Store). t .frames) (A .store []);
+  count = count-kept w v (R .3 .above 2578 (omega arith)) ∙ ap (λ (t : Store). t .count) (A .store []);
+}
+
+-- a store that fails the first tests
+pub examined-not : (s : Store) (q : Bool) (w h l : List ℕ) → Brought s q w → (q && (leb 1 (s .frames) && (leb (s .frames) 1024 && leb (s .count) 512))) ≡ false → Outcome s false w h l
+unfolding counts?
+examined-not s q w h l B e = (
+  by-test (counts? s) (λ c. by-test q (λ t. absurd (false≢true (sym e ∙ go t c))) (λ f. sound-ranges s _ c refl (slots-none s (lost c f)))) (λ c. sound-none s c),
+  B .sized,
+  λ t. absurd (false≢true t),
+  λ t. absurd (false≢true t),
+)
+  where
+    go : q ≡ true → counts? s ≡ true → (q && (leb 1 (s .frames) && (leb (s .frames) 1024 && leb (s .count) 512))) ≡ true
+    go t c = rw t c
+
+    lost : counts? s ≡ true → q ≡ false → slots? (s .live) (s .ranges) (s .count) 0 0 ≡ false
+    lost c f = let m = le-leb (s .count) 512 (counts-says s c .1) in (rw m at (sym (B .rows))) ∙ f
+
+-- one that passes them, with what the others say
+pub examined-so : (s : Store) (q p : Bool) (w h l : List ℕ) → Brought s q w → (q && (leb 1 (s .frames) && (leb (s .frames) 1024 && leb (s .count) 512))) ≡ true
+    → Tested (s .frames) (s .count) w p h l → Outcome s p w h l
+unfolding counts?
+examined-so s q p w h l B e E =
+    let a = both-true q _ e in
+    let c : counts? s ≡ true = counted (a .1) in
+    let few = counts-says s c .1 in
+    examined s w (B .told (a .0)) (B .sized) few p h l c (and-right (leb (s .count) 512) _ (sym (B .rows) ∙ a .0)) E
+  where
+    counted : (leb 1 (s .frames) && (leb (s .frames) 1024 && leb (s .count) 512)) ≡ true → counts? s ≡ true
+    counted e = e

@@ -5,26 +5,18 @@ ghost use mathlib.Core.Path.{_≡_};
 ghost use mathlib.Core.Bool.{true};
 ghost use Prim.Native.Nat.{ℕ, _≤_, _<_};
 ghost use lib.ListN.{drop, length, replicate, take};
-ghost use Rattle.store.specs.Sound.{counts?, sound?, Sized};
+ghost use Rattle.store.specs.Sound.{sound?, Sized};
 ghost use Rattle.sound_places.specs.Alone.{SpotChains};
 ghost use Rattle.sound_places.specs.Seats.{seatedAt};
-ghost use Rattle.sound_places.specs.Words.{spotsOf, tagsOf, Ranged, Short};
+ghost use Rattle.sound_places.specs.Words.{spotsOf, tagsOf, Ranged};
 ghost use Rattle.lists.specs.Every.{allBelow};
 ghost use Rattle.columns.specs.Columns.{spotted};
-ghost use Rattle.sound_ranges.specs.Slots.{slots?};
-ghost use Rattle.sound.specs.Parts.{placed?, Chains, Examined, Numbered, Tested, Told};
+ghost use Rattle.sound.specs.Parts.{placed?, Brought, Laid, Numbered, Outcome, Tested};
 
-// "1 to 1,024 frames", "at most 512 ranges"
-pub fn counts(s: Store) -> bool
-    ensures { λ q. ⌜ q ≡ counts? s ⌝ }
-{
-    (1 <= s.frames) & ((s.frames <= 1024) & (s.count <= 512))
-}
-
-// A store put into a sheet, if each range by itself, their order and the unused slots are as they should be.
-fn load(s: Store, sheet: &mut [u64; 2579]) -> bool
-    requires { ⌜ (s .count ≤ 512) × (length (now sheet) ≡ 2579) ⌝ }
-    ensures { λ q. ⌜ (q ≡ slots? (s .live) (s .ranges) (s .count) 0 0) × (q ≡ true → Told s (now (sheet .exit))) ⌝ }
+// A store put into a sheet but for its ranges, which `sound_ranges::rows` puts there. The caller learns the lengths of the store's tables too.
+pub fn load(s: Store, sheet: &mut [u64; 2579])
+    requires { ⌜ now sheet ≡ replicate 2579 0 ⌝ }
+    ensures { λ _. ⌜ Laid s (now (sheet .exit)) ⌝ }
 {
     sheet::set_frames(sheet, s.frames);
     sheet::set_live(sheet, s.live);
@@ -33,8 +25,6 @@ fn load(s: Store, sheet: &mut [u64; 2579]) -> bool
     sheet::load_words(sheet, free);
     let places = s.places;
     sheet::load_places(sheet, places);
-    let ranges = s.ranges;
-    sound_ranges::load_ranges(ranges, s.count, s.live, sheet)
 }
 
 // "A `Single` range has .. its frame at index 0", of every range.
@@ -57,15 +47,14 @@ fn place_tests(
     sheet: &[u64],
     count: usize,
     frames: usize,
-    free: [u64; 16],
     holders: &[u16],
     links: &mut [u16; 2048],
 ) -> bool
     requires { ⌜ (frames ≤ 1024) × Ranged (now sheet) (now holders) count × ((i : ℕ) → i < count → Numbered (now sheet) i) × (now links ≡ replicate 2048 0) ⌝ }
-    ensures { λ q. ⌜ (q ≡ placed? frames count free (now (sheet .entry)) (now (holders .entry))) × (q ≡ true → SpotChains (spotsOf (now (sheet .entry))) frames (take 1024 (now (links .exit))) (drop 1024 (now (links .exit)))) ⌝ }
+    ensures { λ q. ⌜ (q ≡ placed? frames count (now (sheet .entry)) (now (holders .entry))) × (q ≡ true → SpotChains (spotsOf (now (sheet .entry))) frames (take 1024 (now (links .exit))) (drop 1024 (now (links .exit)))) ⌝ }
 {
-    if sound_places::all_bits(free, &sheet[1536..2560], frames) {
-        if sound_places::seat_all(free, sheet, holders, links, count, frames) {
+    if sound_places::all_bits(&sheet[2560..2576], &sheet[1536..2560], frames) {
+        if sound_places::seat_all(&sheet[2560..2576], sheet, holders, links, count, frames) {
             return seat_tests(sheet, count, frames, links);
         }
     }
@@ -77,34 +66,32 @@ fn tests(
     sheet: &[u64],
     count: usize,
     frames: usize,
-    free: [u64; 16],
     holders: &mut [u16; 2048],
     links: &mut [u16; 2048],
 ) -> bool
-    requires { ⌜ (frames ≤ 1024) × (count ≤ 512) × (length (now sheet) ≡ 2579) × ((i : ℕ) → i < count → Numbered (now sheet) i) × ((i : ℕ) → i < count → Short (now sheet) i) × (now holders ≡ replicate 2048 0) × (now links ≡ replicate 2048 0) ⌝ }
-    ensures { λ q. ⌜ Tested frames count free (now (sheet .entry)) q (now (holders .exit)) (now (links .exit)) ⌝ }
+    requires { ⌜ (frames ≤ 1024) × (count ≤ 512) × (length (now sheet) ≡ 2579) × (now holders ≡ replicate 2048 0) × (now links ≡ replicate 2048 0) ⌝ }
+    ensures { λ q. ⌜ Tested frames count (now (sheet .entry)) q (now (holders .exit)) (now (links .exit)) ⌝ }
 {
-    if sound_ranges::chain_ranges(&sheet[1024..1536], count, holders) {
-        return place_tests(sheet, count, frames, free, holders, links);
+    if sound_ranges::chain_ranges(&sheet[1024..1536], &sheet[512..1024], count, holders) {
+        return place_tests(sheet, count, frames, holders, links);
     }
     false
 }
 
-// "What a sound store is", as one test. A sound store is in the sheet then, and its ranges and frames are chained. The caller learns the lengths of the store's tables too.
+// "What a sound store is", as one test: of a store in its sheet, `rows` being what `sound_ranges::rows` said of its table. The ranges and frames of a sound one are chained then.
 pub fn examine(
-    s: Store,
-    sheet: &mut [u64; 2579],
+    rows: bool,
+    sheet: &[u64; 2579],
     holders: &mut [u16; 2048],
     links: &mut [u16; 2048],
 ) -> bool
-    requires { ⌜ (length (now sheet) ≡ 2579) × (now holders ≡ replicate 2048 0) × (now links ≡ replicate 2048 0) ⌝ }
-    ensures { λ q. ⌜ (q ≡ sound? s) × Sized s × (q ≡ true → Examined s (now (sheet .exit)) (now (links .exit))) × (q ≡ true → Chains (now (sheet .exit)) (s .count) (now (holders .exit))) ⌝ }
+    requires { ⌜ (now holders ≡ replicate 2048 0) × (now links ≡ replicate 2048 0) ⌝ }
+    ensures { λ q. ⌜ ((s : Store) → Brought s rows (now (sheet .entry)) → Outcome s q (now (sheet .entry)) (now (holders .exit)) (now (links .exit))) ⌝ }
 {
-    if counts(s) {
-        if load(s, sheet) {
-            let free = s.free;
-            return tests(sheet, s.count, s.frames, free, holders, links);
-        }
+    let frames = sheet::frames(sheet);
+    let count = sheet::count(sheet);
+    if rows & ((1 <= frames) & ((frames <= 1024) & (count <= 512))) {
+        return tests(sheet, count, frames, holders, links);
     }
     false
 }
@@ -116,5 +103,8 @@ pub fn sound(s: Store) -> bool
     let mut sheet = [0u64; 2579];
     let mut holders = [0u16; 2048];
     let mut links = [0u16; 2048];
-    examine(s, &mut sheet, &mut holders, &mut links)
+    load(s, &mut sheet);
+    let ranges = s.ranges;
+    let rows = sound_ranges::rows(ranges, s.count, s.live, &mut sheet);
+    examine(rows, &sheet, &mut holders, &mut links)
 }

@@ -87,7 +87,7 @@ fn guess(lines: &[u64], tags: &[u64], spans: &[u64], count: usize, k: usize, x: 
     0
 }
 
-// The same from link k on: the next of its chain, then the guess.
+// The same from link k on: the next of its chain, the range next but one in the table (between pieces of one range stand pages that were cut out), then the guess.
 fn near(
     lines: &[u64],
     tags: &[u64],
@@ -103,6 +103,12 @@ fn near(
     let low = hit(tags, spans, next[k - 1] as usize, x);
     if 0 < low {
         return low;
+    }
+    if k + 2 <= count {
+        let high = hit(tags, spans, k + 2, x);
+        if 0 < high {
+            return high;
+        }
     }
     guess(lines, tags, spans, count, k, x)
 }
@@ -309,14 +315,14 @@ fn seat_frames(
 
 // The same of all frames, which are chained by their places. Words of the map with every bit set are passed over: those frames are free.
 pub fn seat_all(
-    free: [u64; 16],
+    free: &[u64],
     sheet: &[u64],
     holders: &[u16],
     links: &mut [u16; 2048],
     count: usize,
     frames: usize,
 ) -> bool
-    requires { ⌜ (frames ≤ 1024) × Ranged (now sheet) (now holders) count × (now links ≡ replicate 2048 0) × (allBelow (kept? frames (spotsOf (now sheet)) free) 1024 ≡ true) ⌝ }
+    requires { ⌜ (frames ≤ 1024) × Ranged (now sheet) (now holders) count × (now links ≡ replicate 2048 0) × (length (now free) ≡ 16) × (allBelow (kept? frames (spotsOf (now sheet)) (now free)) 1024 ≡ true) ⌝ }
     ensures { λ q. ⌜ (q ≡ allBelow (placedAt? (now (sheet .entry)) (now (holders .entry))) frames) × (q ≡ true → SpotChains (spotsOf (now (sheet .entry))) frames (take 1024 (now (links .exit))) (drop 1024 (now (links .exit)))) × (q ≡ true → length (now (links .exit)) ≡ 2048) ⌝ }
 {
     let mut seen = [0u64; 3];
@@ -460,9 +466,9 @@ fn word_bits(word: u64, spots: &[u64], frames: usize, first: usize) -> bool
 
 // "a map of free frames, one bit each"; "bits of frames beyond the count are clear"; "unused slots are zero": the places of free frames and of frames
 // beyond the count.
-pub fn all_bits(free: [u64; 16], spots: &[u64], frames: usize) -> bool
-    requires { ⌜ length (now spots) ≡ 1024 ⌝ }
-    ensures { λ q. ⌜ q ≡ allBelow (λ f. idle? frames f (placeAt (spotted (now (spots .entry))) f) && bit? frames (spotted (now (spots .entry))) free f) 1024 ⌝ }
+pub fn all_bits(free: &[u64], spots: &[u64], frames: usize) -> bool
+    requires { ⌜ (length (now free) ≡ 16) × (length (now spots) ≡ 1024) ⌝ }
+    ensures { λ q. ⌜ q ≡ allBelow (λ f. idle? frames f (placeAt (spotted (now (spots .entry))) f) && bit? frames (spotted (now (spots .entry))) (now (free .entry)) f) 1024 ⌝ }
 {
     let mut i: usize = 0;
     while i < 16 {

@@ -75,6 +75,13 @@ module _ {A : Type 0} (P : A → Bool) (l : List A) (z : A) where
   pub every-at : (n : ℕ) → n ≤ length l → every P (take n l) ≡ true → (k : ℕ) → k < n → P (getD l k z) ≡ true
   every-at n m h k b = by-test (P (getD l k z)) (λ e. e) (λ e. absurd (false≢true (every-fails P l n k z b m e ∙ h)))
 
+  -- a test by indexes that is the test of the elements
+  pub every-below : (Q : ℕ → Bool) (n : ℕ) → n ≤ length l → ((k : ℕ) → k < n → Q k ≡ P (getD l k z)) → allBelow Q n ≡ every P (take n l)
+  every-below Q n m e =
+      by-test (allBelow Q n)
+      (λ h. h ∙ sym (every-from n m (λ k b. sym (e k b) ∙ below-at Q n h k b)))
+      (λ h. h ∙ sym (by-test (every P (take n l)) (λ g. absurd (false≢true (sym h ∙ at-below Q n (λ k b. e k b ∙ every-at n m g k b)))) (λ g. g)))
+
 module _ (l : List PageRange) (ts : List ℕ) (n : ℕ) (m : n ≤ length l) (T : Tags l n ts) where
   -- the backing of range k
   abbrev back : ℕ → BackingPages

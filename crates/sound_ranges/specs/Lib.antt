@@ -1,3 +1,4 @@
 pub mod Agree
+pub mod Fit
 pub mod Shape
 pub mod Slots

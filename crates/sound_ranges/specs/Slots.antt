@@ -8,23 +8,16 @@ use native.Mathlib.Omega.{arith}
 use lib.ListN.{drop, getD, length, length-drop, take}
 use lib.Seq.{getD-drop, take-length}
 use Rattle.table.specs.declared.PageRange.{PageRange}
-use Rattle.table.specs.declared.BackingPages.{BackingPages}
-use Rattle.table.specs.declared.BackingPages.the-variants.{Nothing, Single, Many}
-use Rattle.lists.specs.Test.{pick, and-left, and-right, by-test}
+use Rattle.lists.specs.Test.{and-right}
 use Rattle.lists.specs.Every.{every}
 use Rattle.lists.specs.Rest.{rest-end, rest-fails, rest-turn}
 use Rattle.ranges.specs.Range.{upto}
-use Rattle.table.specs.Table.{numberOf, rangeOf, zeroRange}
+use Rattle.table.specs.Table.{rangeOf, zeroRange}
 use Rattle.store.specs.Sound.{zero?}
 use Rattle.store.specs.Iff.{zero-says}
-use Rattle.sheet.specs.Load.{Emptied, Kept, Rows, kept-then}
-use Rattle.sheet.specs.Sheet.{tagOf}
+use Rattle.sheet.specs.Load.{Blanked, Kept, Rows, rows-blanked}
 use Rattle.sound_ranges.specs.Agree.{every-at}
-use Rattle.sound_ranges.specs.Shape.{follows?, rises?, rises-end, rises-fails, rises-turn, shaped?, shaped-number}
-
--- the tag of the backing of a range that is shaped and begins at or after `low`, else 0
-abbrev pub tagged : ℕ → ℕ → PageRange → ℕ
-tagged live low r = pick (follows? live low r) (tagOf (r .backing)) 0
+use Rattle.sound_ranges.specs.Shape.{follows?, rises?, rises-end, rises-fails, rises-turn}
 
 -- the slots from i on, of which the first n are used
 unfoldable pub slots? : ℕ → List PageRange → ℕ → ℕ → ℕ → Bool
@@ -35,25 +28,6 @@ pub record Loaded (l : List PageRange) (w v : List ℕ) : Type 0 where
   pub rows : Rows l 512 v
   pub kept : Kept 0 1536 w v
   pub long : length v ≡ 2579
-
--- ---- a tag tells whether the range passes
-module _ (live low : ℕ) (r : PageRange) (x : ℕ) (t : x ≡ tagged live low r) where
-  pub tagged-passes : 0 < x → follows? live low r ≡ true
-  tagged-passes h = by-test (follows? live low r) (λ e. e) (λ e. let q : x ≡ 0 = t ∙ rw e in absurd (omega arith))
-
-  pub tagged-fails : x ≡ 0 → follows? live low r ≡ false
-  tagged-fails h =
-      by-test (follows? live low r)
-      (λ e.
-      let q : x ≡ tagOf (r .backing) = t ∙ rw e in
-      let p = positive (r .backing) (shaped-number live r (and-left (shaped? live r) _ e)) in
-      absurd (omega arith))
-      (λ e. e)
-    where
-      positive : (k : BackingPages) → 0 < numberOf k → 0 < tagOf k
-      positive Nothing p = p
-      positive (Single b) p = omega arith
-      positive (Many b) p = omega arith
 
 -- ---- a turn of the loop over the slots
 module _ (live : ℕ) (l : List PageRange) (n : ℕ) (m : n ≤ length l) (low i : ℕ) where
@@ -104,5 +78,5 @@ module _ (l : List PageRange) (n : ℕ) where
         every-at zero? (drop n l) zeroRange (length (drop n l)) (le-refl _) (rw take-length e) (i - n) (simp length-drop (omega arith)) in
         zero-says _ (rw (getD-drop n l (i - n) zeroRange, q) at z)
 
-    pub loaded : (w u v : List ℕ) → Rows l n u → Kept 0 1536 w u → Emptied n u v → Loaded l w v
-    loaded w u v R K E = record { rows = E .rows l rest-zero R; kept = kept-then 0 1536 w u v K (E .kept); long = E .long }
+    pub loaded : (w v : List ℕ) → length v ≡ 2579 → Rows l n v → Blanked n v → Kept 0 1536 w v → Loaded l w v
+    loaded w v long R B K = record { rows = rows-blanked l n v rest-zero R B; kept = K; long = long }

@@ -2,21 +2,18 @@
 use table::BackingPages;
 use table::PageRange;
 ghost use mathlib.Core.Path.{_≡_};
-ghost use mathlib.Core.Bool.{true};
+ghost use mathlib.Core.Bool.{true, _&&_};
 ghost use Prim.Native.Nat.{_+_, _≤_, _<_};
 ghost use lib.Dec.{leb};
 ghost use lib.ListN.{drop, length, replicate, take};
-ghost use Rattle.lists.specs.Test.{pick};
 ghost use Rattle.lists.specs.Every.{allBelow};
-ghost use Rattle.table.specs.Table.{numberOf};
 ghost use Rattle.chains.specs.Chains.{Chained, keyed};
 ghost use Rattle.chains.specs.Walk.{Walk};
-ghost use Rattle.sheet.specs.Edits.{Narrow};
-ghost use Rattle.sheet.specs.Load.{Kept, Rows};
-ghost use Rattle.sheet.specs.Sheet.{tagOf};
+ghost use Rattle.sheet.specs.Load.{Blanked, Kept};
 ghost use Rattle.sound_ranges.specs.Agree.{alikeIn, alikeTo};
-ghost use Rattle.sound_ranges.specs.Shape.{fits?};
-ghost use Rattle.sound_ranges.specs.Slots.{slots?, tagged, Loaded};
+ghost use Rattle.sound_ranges.specs.Fit.{fitting?, fittingAt};
+ghost use Rattle.sound_ranges.specs.Shape.{follows?};
+ghost use Rattle.sound_ranges.specs.Slots.{slots?, Loaded};
 ghost use Rattle.store.specs.Abs.{liveBit};
 ghost use Rattle.store.specs.Sound.{isNothing?, zero?};
 
@@ -38,50 +35,24 @@ pub fn ends_within(start: usize, length: u32) -> bool
     start + (length as usize) <= 262144
 }
 
-// The tag of a backing that fits this length and offset, else 0: "`Nothing` stands only in unused slots"; "A `Single` range has length 1 and offset 0"; "A `Many`
-// range has offset + length at most 1,048,576".
-fn kind_tag(k: BackingPages, length: u32, offset: u32) -> u64
-    ensures { λ x. ⌜ (x ≡ pick (fits? length offset k) (tagOf k) 0) × (numberOf k < 4294967296) ⌝ }
-{
-    match k {
-        BackingPages::Nothing => 0,
-        BackingPages::Single(b) => {
-            if (0 < b) & ((length == 1) & (offset == 0)) {
-                return 4294967296 + (b as u64);
-            }
-            0
-        }
-        BackingPages::Many(b) => {
-            if (0 < b) & ((offset as usize) + (length as usize) <= 1048576) {
-                return 8589934592 + (b as u64);
-            }
-            0
-        }
-    }
-}
-
-// The tag of the backing of a range that is as it should be and begins at or after page `low` of the line, else 0: "Each range belongs to a live object, has length at
-// least 1, ends by page 262,144".
-fn row_tag(r: PageRange, live: u32, low: usize) -> u64
-    ensures { λ x. ⌜ (x ≡ tagged live low r) × (0 < x → Narrow r) ⌝ }
+// A range lies in a live object and begins at or after page `low` of the line: "Each range belongs to a live object, has length at least 1, ends by page 262,144".
+fn lies(r: PageRange, live: u32, low: usize) -> bool
+    ensures { λ q. ⌜ (q ≡ follows? live low r) × (q ≡ true → r .start .0 < 262144) ⌝ }
 {
     let object = r.object;
     let start = r.start.0;
     if 31 < object {
-        return 0;
+        return false;
     }
     if is_live(live, object) {
         if r.length == 0 {
-            return 0;
+            return false;
         }
         if ends_within(start, r.length) {
-            if low <= (object as usize) * 262144 + start {
-                let k = r.backing;
-                return kind_tag(k, r.length, r.offset);
-            }
+            return low <= (object as usize) * 262144 + start;
         }
     }
-    0
+    false
 }
 
 // Whether there is no backing.
@@ -104,28 +75,33 @@ pub fn zero_slot(r: PageRange) -> bool
     (r.object == 0) & ((r.start.0 == 0) & ((r.length == 0) & ((r.offset == 0) & t)))
 }
 
-// The tests of all slots: "overlaps no other of its object"; "Ranges stand in the table by object, then start, from slot 0": on the line of all pages each range begins at or
-// after the end of the one before it; "unused slots are zero". The ranges are put into the sheet on the way. One loop, since each function that takes a table copies it.
-fn rows(ranges: [PageRange; 512], count: usize, live: u32, sheet: &mut [u64; 2579]) -> bool
-    requires { ⌜ (count ≤ 512) × (length (now sheet) ≡ 2579) ⌝ }
-    ensures { λ q. ⌜ (q ≡ slots? live ranges count 0 0) × (q ≡ true → Rows ranges count (now (sheet .exit)) × Kept 0 1536 (now (sheet .entry)) (now (sheet .exit)) × (length (now (sheet .exit)) ≡ 2579)) ⌝ }
+// The tests of all slots but for the kinds of backings: "at most 512 ranges"; "overlaps no other of its object"; "Ranges stand in the table by object, then start, from slot
+// 0": on the line of all pages each range begins at or after the end of the one before it; "unused slots are zero". The ranges are put into the sheet on the way, whose slots
+// are zero before. One loop, and little in it: so it is compiled into each call, and a call's table is copied once.
+pub fn rows(ranges: [PageRange; 512], count: usize, live: u32, sheet: &mut [u64; 2579]) -> bool
+    requires { ⌜ (length (now sheet) ≡ 2579) × Blanked 0 (now sheet) ⌝ }
+    ensures { λ q. ⌜ (q ≡ (leb count 512 && slots? live ranges count 0 0)) × (q ≡ true → Loaded ranges (now (sheet .entry)) (now (sheet .exit))) × (length (now (sheet .exit)) ≡ 2579) × Kept 0 1536 (now (sheet .entry)) (now (sheet .exit)) ⌝ }
 {
+    if 512 < count {
+        return false;
+    }
     let mut low: usize = 0;
     let mut i: usize = 0;
     while i < 512 {
         let r = ranges[i];
         if i < count {
-            let x = row_tag(r, live, low);
-            if x == 0 {
-                return false;
+            if lies(r, live, low) {
+                let first = (r.object as u64) * 262144 + (r.start.0 as u64);
+                let k = r.backing;
+                let x = sheet::tag(k);
+                sheet[i] = first;
+                sheet[512 + i] = (r.offset as u64) * 4294967296 + (r.length as u64);
+                sheet[1024 + i] = x;
+                low = (first as usize) + (r.length as usize);
+                i += 1;
+                continue;
             }
-            let first = (r.object as u64) * 262144 + (r.start.0 as u64);
-            sheet[i] = first;
-            sheet[512 + i] = (r.offset as u64) * 4294967296 + (r.length as u64);
-            sheet[1024 + i] = x;
-            low = (first as usize) + (r.length as usize);
-            i += 1;
-            continue;
+            return false;
         }
         if zero_slot(r) {
             i += 1;
@@ -136,21 +112,16 @@ fn rows(ranges: [PageRange; 512], count: usize, live: u32, sheet: &mut [u64; 257
     true
 }
 
-// The same; a table that passes is in the sheet then, with zeros behind it.
-pub fn load_ranges(
-    ranges: [PageRange; 512],
-    count: usize,
-    live: u32,
-    sheet: &mut [u64; 2579],
-) -> bool
-    requires { ⌜ (count ≤ 512) × (length (now sheet) ≡ 2579) ⌝ }
-    ensures { λ q. ⌜ (q ≡ slots? live ranges count 0 0) × (q ≡ true → Loaded ranges (now (sheet .entry)) (now (sheet .exit))) ⌝ }
+// Whether the backing fits the range's length and offset, by tag and span: "`Nothing` stands only in unused slots"; "A `Single` range has length 1 and offset 0"; "A `Many`
+// range has offset + length at most 1,048,576".
+pub fn fits(tag: u64, span: u64) -> bool
+    ensures { λ q. ⌜ q ≡ fitting? tag span ⌝ }
 {
-    if rows(ranges, count, live, sheet) {
-        sheet::clear_rows(sheet, count);
-        return true;
+    let n = tag % 4294967296;
+    if tag / 4294967296 == 2 {
+        return (0 < n) & (span / 4294967296 + span % 4294967296 <= 1048576);
     }
-    false
+    (tag / 4294967296 == 1) & ((0 < n) & (span == 1))
 }
 
 // Two backings of one number, by their tags, are of one kind.
@@ -182,22 +153,25 @@ pub fn agrees(tags: &[u64], links: &[u16; 2048], i: usize, first: usize) -> bool
     true
 }
 
-// "Ranges that hold one backing agree on its kind." Ranges are chained by their backings on the way, each compared with those of its chain before it.
-pub fn chain_ranges(tags: &[u64], count: usize, links: &mut [u16; 2048]) -> bool
-    requires { ⌜ (count ≤ length (now tags)) × (length (now tags) ≤ 1024) × (now links ≡ replicate 2048 0) ⌝ }
-    ensures { λ q. ⌜ (q ≡ allBelow (λ i. allBelow (alikeTo (now (tags .entry)) i) i) count) × (q ≡ true → Chained (keyed (now (tags .entry))) count (take 1024 (now (links .exit))) (drop 1024 (now (links .exit)))) × (length (now (links .exit)) ≡ 2048) ⌝ }
+// Every backing fits its range; "Ranges that hold one backing agree on its kind." Ranges are chained by their backings on the way, each compared with those of its chain
+// before it.
+pub fn chain_ranges(tags: &[u64], spans: &[u64], count: usize, links: &mut [u16; 2048]) -> bool
+    requires { ⌜ (count ≤ length (now tags)) × (length (now tags) ≤ 1024) × (count ≤ length (now spans)) × (now links ≡ replicate 2048 0) ⌝ }
+    ensures { λ q. ⌜ (q ≡ (allBelow (fittingAt (now (tags .entry)) (now (spans .entry))) count && allBelow (λ i. allBelow (alikeTo (now (tags .entry)) i) i) count)) × (q ≡ true → Chained (keyed (now (tags .entry))) count (take 1024 (now (links .exit))) (drop 1024 (now (links .exit)))) × (length (now (links .exit)) ≡ 2048) ⌝ }
 {
     let mut i: usize = 0;
     while i < count {
-        let h = (tags[i] % 1024) as usize;
-        let k = links[h];
-        links[1024 + i] = k;
-        links[h] = (i as u16) + 1;
-        if agrees(tags, links, i, k as usize) {
-            i += 1;
-        } else {
-            return false;
+        if fits(tags[i], spans[i]) {
+            let h = (tags[i] % 1024) as usize;
+            let k = links[h];
+            links[1024 + i] = k;
+            links[h] = (i as u16) + 1;
+            if agrees(tags, links, i, k as usize) {
+                i += 1;
+                continue;
+            }
         }
+        return false;
     }
     true
 }

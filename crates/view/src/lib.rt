@@ -18,7 +18,10 @@ fn frame_shown(s: Store, pool: usize, object: u32, page: PageNumber) -> Frame
     let mut sheet = [0u64; 2579];
     let mut holders = [0u16; 2048];
     let mut links = [0u16; 2048];
-    let sound = sound::examine(s, &mut sheet, &mut holders, &mut links);
+    sound::load(s, &mut sheet);
+    let ranges = s.ranges;
+    let rows = sound_ranges::rows(ranges, s.count, s.live, &mut sheet);
+    let sound = sound::examine(rows, &sheet, &mut holders, &mut links);
     let k = enter::show(sound, &sheet, pool, object, page);
     if 0 < k {
         return Frame::Nothing;

@@ -9,25 +9,32 @@ use Rattle.access.specs.Finish.{add-done, handed}
 use Rattle.closing.specs.Closed.{closed-parts}
 use native.Mathlib.Omega.{arith}
 use borrow.Author.Needs.{needs}
+use Rattle.sound.specs.Parts.{brought}
 use Rattle.access.proofs.add.Statement.{statement}
 use Rattle.access.proofs.add.Tie as tie
+
+load-requires : tie.Need-load-requires
+load-requires c κs = search needs
+
+rows-requires : tie.Need-rows-requires
+rows-requires c κs = search needs
 
 examine-requires : tie.Need-examine-requires
 examine-requires c κs = search needs
 
 add-requires : tie.Need-add-requires
-add-requires c κs = λ t. tried (c .before .examine .ensures) .enters t .sound
+add-requires c κs = λ t. tried (c .before .examine .ensures _ (brought (c .before .before .before .before .before .before .before .before .load .ensures) (c .before .before .before .before .before .rows .ensures))) .enters t .sound
 
 returns : tie.Need-returns
 returns c =
-    let a = c .before .before .before .before .before .before .before .before .args in
-    (with-refused (add (a .object) (a .page .0)) (a .s) (a .pool .now) (added 0) (c .before .add .result) (c .if1 .taken) (refuses (tried (c .before .before .before .examine .ensures)) _ _ (c .before .add .ensures (a .pool .now) refl)) (λ j. refl), λ _. refl)
+    let a = c .before .before .before .before .before .before .before .before .before .before .before .before .before .args in
+    (with-refused (add (a .object) (a .page .0)) (a .s) (a .pool .now) (added 0) (c .before .add .result) (c .if1 .taken) (refuses (tried (c .before .before .before .examine .ensures _ (brought (c .before .before .before .before .before .before .before .before .before .before .load .ensures) (c .before .before .before .before .before .before .before .rows .ensures)))) _ _ (c .before .add .ensures (a .pool .now) refl)) (λ j. refl), λ _. refl)
 
 add-page-requires : tie.Need-add-page-requires
 add-page-requires c κs =
-    let a = c .before .before .before .before .before .before .before .before .before .before .args in
+    let a = c .before .before .before .before .before .before .before .before .before .before .before .before .before .before .before .args in
     let e = c .before .before .before .add .ensures in
-    let T = tried (c .before .before .before .before .before .examine .ensures) in
+    let T = tried (c .before .before .before .before .before .examine .ensures _ (brought (c .before .before .before .before .before .before .before .before .before .before .before .before .load .ensures) (c .before .before .before .before .before .before .before .before .before .rows .ensures))) in
     let k : c .before .before .before .add .result ≡ 0 = omega (arith, c .before .before .if1 .left) in
     let E = accepted T _ _ (e (a .pool .now) refl) k in
     let r : 0 ≡ refusal (a .s) (a .pool .now) (add (a .object) (a .page .0)) = sym k ∙ refuses T _ _ (e (a .pool .now) refl) in
@@ -58,9 +65,9 @@ same-length c = search needs
 returns-2 : tie.Need-returns-2
 returns-2 c =
     let b = c .before .before .before .before .before .before .before .before .before .before .before .before in
-    let a = b .before .before .before .before .before .before .before .before .before .before .before .before .before .args in
+    let a = b .before .before .before .before .before .before .before .before .before .before .before .before .before .before .before .before .before .before .args in
     let e = b .before .before .before .before .before .before .add .ensures in
-    let T = tried (b .before .before .before .before .before .before .before .before .examine .ensures) in
+    let T = tried (b .before .before .before .before .before .before .before .before .examine .ensures _ (brought (b .before .before .before .before .before .before .before .before .before .before .before .before .before .before .before .load .ensures) (b .before .before .before .before .before .before .before .before .before .before .before .before .rows .ensures))) in
     let k : b .before .before .before .before .before .before .add .result ≡ 0 = omega (arith, b .before .before .before .before .before .if1 .left) in
     let E = accepted T _ _ (e (a .pool .now) refl) k in
     let r : 0 ≡ refusal (a .s) (a .pool .now) (add (a .object) (a .page .0)) = sym k ∙ refuses T _ _ (e (a .pool .now) refl) in
@@ -72,4 +79,4 @@ returns-2 c =
 pub add-spec : {M : Type 1} → statement M
 add-spec =
     tie.close
-    (tie.spec examine-requires add-requires returns add-page-requires frames-requires ranges-of-requires places-of-requires free-map-requires live-requires count-requires same-length returns-2)
+    (tie.spec load-requires rows-requires examine-requires add-requires returns add-page-requires frames-requires ranges-of-requires places-of-requires free-map-requires live-requires count-requires same-length returns-2)

@@ -14,27 +14,34 @@ use Rattle.calls.specs.Calls.{did-refused}
 use Rattle.calls.specs.Drop.{Dropped, drop-name, drop-room, drop-done}
 use native.Mathlib.Omega.{arith}
 use borrow.Author.Needs.{needs}
+use Rattle.sound.specs.Parts.{brought}
 use Rattle.calls.proofs.drop_object.Statement.{statement}
 use Rattle.calls.proofs.drop_object.Tie as tie
+
+load-requires : tie.Need-load-requires
+load-requires c κs = search needs
+
+rows-requires : tie.Need-rows-requires
+rows-requires c κs = search needs
 
 examine-requires : tie.Need-examine-requires
 examine-requires c κs = search needs
 
 drop-object-requires : tie.Need-drop-object-requires
-drop-object-requires c κs = λ t. tried (c .before .examine .ensures) .enters t .sound
+drop-object-requires c κs = λ t. tried (c .before .examine .ensures _ (brought (c .before .before .before .before .before .before .before .before .load .ensures) (c .before .before .before .before .before .rows .ensures))) .enters t .sound
 
 returns : tie.Need-returns
 returns c =
-    let a = c .before .before .before .before .before .before .before .args in
+    let a = c .before .before .before .before .before .before .before .before .before .before .before .before .args in
     let q = c .before .drop-object in
-    let T = tried (c .before .before .before .examine .ensures) in
+    let T = tried (c .before .before .before .examine .ensures _ (brought (c .before .before .before .before .before .before .before .before .before .before .load .ensures) (c .before .before .before .before .before .before .before .rows .ensures))) in
     did-refused (dropObject (a .object)) (a .s) done (q .result) (c .if1 .taken) (λ x. refuses T x _ (q .ensures x)) (λ j. refl)
 
 without-object-requires : tie.Need-without-object-requires
 without-object-requires c κs =
-    let a = c .before .before .before .before .before .before .before .before .args in
+    let a = c .before .before .before .before .before .before .before .before .before .before .before .before .before .args in
     let q = c .before .before .drop-object in
-    let T = tried (c .before .before .before .before .examine .ensures) in
+    let T = tried (c .before .before .before .before .examine .ensures _ (brought (c .before .before .before .before .before .before .before .before .before .before .before .load .ensures) (c .before .before .before .before .before .before .before .before .rows .ensures))) in
     let k : q .result ≡ 0 = omega (arith, c .before .if1 .left) in
     let r : (x : List ℕ) → 0 ≡ refusal (a .s) x (dropObject (a .object)) = λ x. sym k ∙ refuses T x _ (q .ensures x) in
     let E = accepted T [] _ (q .ensures []) k in
@@ -44,9 +51,9 @@ without-object-requires c κs =
 
 returns-2 : tie.Need-returns-2
 returns-2 c =
-    let a = c .before .before .before .before .before .before .before .before .before .args in
+    let a = c .before .before .before .before .before .before .before .before .before .before .before .before .before .before .args in
     let q = c .before .before .before .drop-object in
-    let T = tried (c .before .before .before .before .before .examine .ensures) in
+    let T = tried (c .before .before .before .before .before .examine .ensures _ (brought (c .before .before .before .before .before .before .before .before .before .before .before .before .load .ensures) (c .before .before .before .before .before .before .before .before .before .rows .ensures))) in
     let k : q .result ≡ 0 = omega (arith, c .before .before .if1 .left) in
     let r : (x : List ℕ) → 0 ≡ refusal (a .s) x (dropObject (a .object)) = λ x. sym k ∙ refuses T x _ (q .ensures x) in
     let E = accepted T [] _ (q .ensures []) k in
@@ -55,4 +62,4 @@ returns-2 c =
 
 pub drop-object-spec : {M : Type 1} → statement M
 drop-object-spec =
-    tie.close (tie.spec examine-requires drop-object-requires returns without-object-requires returns-2)
+    tie.close (tie.spec load-requires rows-requires examine-requires drop-object-requires returns without-object-requires returns-2)

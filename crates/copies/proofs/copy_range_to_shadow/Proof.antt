@@ -10,19 +10,26 @@ use Rattle.access.specs.Finish.{handed}
 use Rattle.copies.specs.Enters.{shadow-enters, shadow-done}
 use native.Mathlib.Omega.{arith}
 use borrow.Author.Needs.{needs}
+use Rattle.sound.specs.Parts.{brought}
 use Rattle.copies.proofs.copy_range_to_shadow.Statement.{statement}
 use Rattle.copies.proofs.copy_range_to_shadow.Tie as tie
+
+load-requires : tie.Need-load-requires
+load-requires c κs = search needs
+
+rows-requires : tie.Need-rows-requires
+rows-requires c κs = search needs
 
 examine-requires : tie.Need-examine-requires
 examine-requires c κs = search needs
 
 shadow-requires : tie.Need-shadow-requires
-shadow-requires c κs = λ t. tried (c .before .examine .ensures) .enters t .sound
+shadow-requires c κs = λ t. tried (c .before .examine .ensures _ (brought (c .before .before .before .before .before .before .before .before .load .ensures) (c .before .before .before .before .before .rows .ensures))) .enters t .sound
 
 returns : tie.Need-returns
 returns c =
-    let a = c .before .before .before .before .before .before .before .before .args in
-    with-refused (shadow (a .source) (a .from) (a .object) (a .to) (a .n)) (a .s) (a .pool .now) done (c .before .shadow .result) (c .if1 .taken) (refuses (tried (c .before .before .before .examine .ensures)) _ _ (c .before .shadow .ensures (a .pool .now) refl)) (λ j. refl)
+    let a = c .before .before .before .before .before .before .before .before .before .before .before .before .before .args in
+    with-refused (shadow (a .source) (a .from) (a .object) (a .to) (a .n)) (a .s) (a .pool .now) done (c .before .shadow .result) (c .if1 .taken) (refuses (tried (c .before .before .before .examine .ensures _ (brought (c .before .before .before .before .before .before .before .before .before .before .load .ensures) (c .before .before .before .before .before .before .before .rows .ensures)))) _ _ (c .before .shadow .ensures (a .pool .now) refl)) (λ j. refl)
 
 from-offset-requires : tie.Need-from-offset-requires
 from-offset-requires c κs = search needs
@@ -32,9 +39,9 @@ from-offset-requires-2 c κs = search needs
 
 copy-range-to-object-tree-requires : tie.Need-copy-range-to-object-tree-requires
 copy-range-to-object-tree-requires c κs =
-    let a = c .before .before .before .before .before .before .before .before .before .before .before .args in
+    let a = c .before .before .before .before .before .before .before .before .before .before .before .before .before .before .before .before .args in
     let e = c .before .before .before .before .shadow .ensures in
-    let T = tried (c .before .before .before .before .before .before .examine .ensures) in
+    let T = tried (c .before .before .before .before .before .before .examine .ensures _ (brought (c .before .before .before .before .before .before .before .before .before .before .before .before .before .load .ensures) (c .before .before .before .before .before .before .before .before .before .before .rows .ensures))) in
     let k : c .before .before .before .before .shadow .result ≡ 0 = omega (arith, c .before .before .before .if1 .left) in
     let E = accepted T _ _ (e (a .pool .now) refl) k in
     let r : 0 ≡ refusal (a .s) (a .pool .now) (shadow (a .source) (a .from) (a .object) (a .to) (a .n)) = sym k ∙ refuses T _ _ (e (a .pool .now) refl) in
@@ -45,9 +52,9 @@ copy-range-to-object-tree-requires c κs =
 
 closed-requires : tie.Need-closed-requires
 closed-requires c κs =
-    let a = c .before .before .before .before .before .before .before .before .before .before .before .before .before .args in
+    let a = c .before .before .before .before .before .before .before .before .before .before .before .before .before .before .before .before .before .before .args in
     let e = c .before .before .before .before .before .before .shadow .ensures in
-    let T = tried (c .before .before .before .before .before .before .before .before .examine .ensures) in
+    let T = tried (c .before .before .before .before .before .before .before .before .examine .ensures _ (brought (c .before .before .before .before .before .before .before .before .before .before .before .before .before .before .before .load .ensures) (c .before .before .before .before .before .before .before .before .before .before .before .before .rows .ensures))) in
     let k : c .before .before .before .before .before .before .shadow .result ≡ 0 = omega (arith, c .before .before .before .before .before .if1 .left) in
     let E = accepted T _ _ (e (a .pool .now) refl) k in
     let r : 0 ≡ refusal (a .s) (a .pool .now) (shadow (a .source) (a .from) (a .object) (a .to) (a .n)) = sym k ∙ refuses T _ _ (e (a .pool .now) refl) in
@@ -60,9 +67,9 @@ closed-requires c κs =
 
 returns-2 : tie.Need-returns-2
 returns-2 c =
-    let a = c .before .before .before .before .before .before .before .before .before .before .before .before .before .before .args in
+    let a = c .before .before .before .before .before .before .before .before .before .before .before .before .before .before .before .before .before .before .before .args in
     let e = c .before .before .before .before .before .before .before .shadow .ensures in
-    let T = tried (c .before .before .before .before .before .before .before .before .before .examine .ensures) in
+    let T = tried (c .before .before .before .before .before .before .before .before .before .examine .ensures _ (brought (c .before .before .before .before .before .before .before .before .before .before .before .before .before .before .before .before .load .ensures) (c .before .before .before .before .before .before .before .before .before .before .before .before .before .rows .ensures))) in
     let k : c .before .before .before .before .before .before .before .shadow .result ≡ 0 = omega (arith, c .before .before .before .before .before .before .if1 .left) in
     let E = accepted T _ _ (e (a .pool .now) refl) k in
     let r : 0 ≡ refusal (a .s) (a .pool .now) (shadow (a .source) (a .from) (a .object) (a .to) (a .n)) = sym k ∙ refuses T _ _ (e (a .pool .now) refl) in
@@ -76,6 +83,8 @@ pub copy-range-to-shadow-spec : {M : Type 1} → statement M
 copy-range-to-shadow-spec =
     tie.close
     (tie.spec
+    load-requires
+    rows-requires
     examine-requires
     shadow-requires
     returns

@@ -8,25 +8,32 @@ use Rattle.enter.specs.Enter.{accepted, refuses, tried}
 use Rattle.access.specs.Finish.{handed}
 use native.Mathlib.Omega.{arith}
 use borrow.Author.Needs.{needs}
+use Rattle.sound.specs.Parts.{brought}
 use Rattle.copies.proofs.zero_ranges.Statement.{statement}
 use Rattle.copies.proofs.zero_ranges.Tie as tie
+
+load-requires : tie.Need-load-requires
+load-requires c κs = search needs
+
+rows-requires : tie.Need-rows-requires
+rows-requires c κs = search needs
 
 examine-requires : tie.Need-examine-requires
 examine-requires c κs = search needs
 
 zero-requires : tie.Need-zero-requires
-zero-requires c κs = λ t. let E = tried (c .before .before .before .examine .ensures) .enters t in (E .sound, E .framed, E .held)
+zero-requires c κs = λ t. let E = tried (c .before .before .before .examine .ensures _ (brought (c .before .before .before .before .before .before .before .before .before .before .load .ensures) (c .before .before .before .before .before .before .before .rows .ensures))) .enters t in (E .sound, E .framed, E .held)
 
 returns : tie.Need-returns
 returns c =
-    let a = c .before .before .before .before .before .before .before .before .before .before .args in
-    with-refused (zeroOut (a .object) (a .offset) (a .n)) (a .s) (a .pool .now) done (c .before .zero .result) (c .if1 .taken) (refuses (tried (c .before .before .before .before .before .examine .ensures)) _ _ (c .before .zero .ensures (a .pool .now) refl)) (λ j. refl)
+    let a = c .before .before .before .before .before .before .before .before .before .before .before .before .before .before .before .args in
+    with-refused (zeroOut (a .object) (a .offset) (a .n)) (a .s) (a .pool .now) done (c .before .zero .result) (c .if1 .taken) (refuses (tried (c .before .before .before .before .before .examine .ensures _ (brought (c .before .before .before .before .before .before .before .before .before .before .before .before .load .ensures) (c .before .before .before .before .before .before .before .before .before .rows .ensures)))) _ _ (c .before .zero .ensures (a .pool .now) refl)) (λ j. refl)
 
 zero-span-requires : tie.Need-zero-span-requires
 zero-span-requires c κs =
-    let a = c .before .before .before .before .before .before .before .before .before .before .before .before .args in
+    let a = c .before .before .before .before .before .before .before .before .before .before .before .before .before .before .before .before .before .args in
     let e = c .before .before .before .zero .ensures in
-    let T = tried (c .before .before .before .before .before .before .before .examine .ensures) in
+    let T = tried (c .before .before .before .before .before .before .before .examine .ensures _ (brought (c .before .before .before .before .before .before .before .before .before .before .before .before .before .before .load .ensures) (c .before .before .before .before .before .before .before .before .before .before .before .rows .ensures))) in
     let k : c .before .before .before .zero .result ≡ 0 = omega (arith, c .before .before .if1 .left) in
     let E = accepted T _ _ (e (a .pool .now) refl) k in
     let r : 0 ≡ refusal (a .s) (a .pool .now) (zeroOut (a .object) (a .offset) (a .n)) = sym k ∙ refuses T _ _ (e (a .pool .now) refl) in
@@ -40,9 +47,9 @@ same-length c = search needs
 
 returns-2 : tie.Need-returns-2
 returns-2 c =
-    let a = c .before .before .before .before .before .before .before .before .before .before .before .before .before .before .before .before .before .args in
+    let a = c .before .before .before .before .before .before .before .before .before .before .before .before .before .before .before .before .before .before .before .before .before .before .args in
     let e = c .before .before .before .before .before .before .before .before .zero .ensures in
-    let T = tried (c .before .before .before .before .before .before .before .before .before .before .before .before .examine .ensures) in
+    let T = tried (c .before .before .before .before .before .before .before .before .before .before .before .before .examine .ensures _ (brought (c .before .before .before .before .before .before .before .before .before .before .before .before .before .before .before .before .before .before .before .load .ensures) (c .before .before .before .before .before .before .before .before .before .before .before .before .before .before .before .before .rows .ensures))) in
     let k : c .before .before .before .before .before .before .before .before .zero .result ≡ 0 = omega (arith, c .before .before .before .before .before .before .before .if1 .left) in
     let E = accepted T _ _ (e (a .pool .now) refl) k in
     let r : 0 ≡ refusal (a .s) (a .pool .now) (zeroOut (a .object) (a .offset) (a .n)) = sym k ∙ refuses T _ _ (e (a .pool .now) refl) in
@@ -53,4 +60,4 @@ returns-2 c =
 pub zero-ranges-spec : {M : Type 1} → statement M
 zero-ranges-spec =
     tie.close
-    (tie.spec examine-requires zero-requires returns zero-span-requires closed-requires same-length returns-2)
+    (tie.spec load-requires rows-requires examine-requires zero-requires returns zero-span-requires closed-requires same-length returns-2)

@@ -50,7 +50,7 @@ returns c =
     let l = c .before .loop in
     let e : l .f ≡ 1024 = omega arith in
     let s = rw e at (l .inv .2) in
-    (places-loaded (a .t2) (a .sheet .now) (l .sheet) (search needs) s (l .inv .3), l .inv .1, s)
+    (places-loaded (a .t2) (a .sheet .now) (l .sheet) (search needs) s (l .inv .3), l .inv .1, s, l .inv .3)
 
 pub load-places-spec : {M : Type 1} → statement M
 load-places-spec =

@@ -48,7 +48,7 @@ returns c =
     let a = c .before .before .args in
     let l = c .before .loop in
     let e : l .i ≡ 16 = omega arith in
-    (words-loaded (a .t2) (a .sheet .now) (l .sheet) (search needs) (rw e at (l .inv .2)) (l .inv .3), l .inv .1)
+    (words-loaded (a .t2) (a .sheet .now) (l .sheet) (search needs) (rw e at (l .inv .2)) (l .inv .3), l .inv .1, l .inv .3)
 
 pub load-words-spec : {M : Type 1} → statement M
 load-words-spec =

@@ -1,62 +1,42 @@
--- `sound::examine` meets its contract. The lengths of the tables are those of their types, as the entry has them.
-use mathlib.Core.Path.{_≡_, refl, sym, _∙_}
-use mathlib.Core.Bool.{false≢true}
-use lib.ListN.{length, length-map}
-use Rattle.store.specs.Sound.{Sized}
-use Rattle.sound.specs.Parts.{counts-says, examined, slots-none, slots-numbers, slots-short, sound-none, sound-ranges}
+-- `sound::examine` meets its contract.
+use mathlib.Core.Path.{_∙_}
+use mathlib.Core.Bool.{_&&_}
+use lib.Dec.{leb}
+use Rattle.lists.specs.Every.{both-true}
+use Rattle.sound.specs.Parts.{examined-not, examined-so}
 use borrow.Author.Needs.{needs}
+use borrow.Author.Tests.{leb-true}
 use Rattle.sound.proofs.examine.Statement.{statement}
 use Rattle.sound.proofs.examine.Tie as tie
 
-counts-requires : tie.Need-counts-requires
-counts-requires c κs = search needs
+frames-requires : tie.Need-frames-requires
+frames-requires c κs = search needs
 
-load-requires : tie.Need-load-requires
-load-requires c κs =
-    let n = counts-says _ (sym (c .before .before .counts .ensures) ∙ c .before .if1 .taken) in
-    (n .1, search needs)
+count-requires : tie.Need-count-requires
+count-requires c κs = search needs
 
 tests-requires : tie.Need-tests-requires
 tests-requires c κs =
-    let s = c .before .before .before .before .before .before .before .before .before .before .args .s in
-    let w : length (s .ranges) ≡ 512 = simp length-map at (c .before .before .before .before .before .before .before .before .before .before .good .0 .1 .1 .1 .1 .1 .0 .1 .0 .1) in
-    let v : length (s .places) ≡ 1024 = simp length-map at (c .before .before .before .before .before .before .before .before .before .before .good .0 .1 .1 .1 .1 .1 .1 .0 .1 .0 .1) in
-    let z : Sized s = record { ranges = w; places = v; free = search needs } in
-    let n = counts-says s (sym (c .before .before .before .before .before .before .before .before .before .counts .ensures) ∙ c .before .before .before .before .before .before .before .before .if1 .taken) in
-    let r = c .before .before .before .before .before .before .load .ensures in
-    let t = c .before .before .before .before .before .if2 .taken in
-    let T = r .1 t in
-    (n .0, n .1, T .long, slots-numbers s _ T z (n .1) (sym (r .0) ∙ t), slots-short s _ T z (n .1) (sym (r .0) ∙ t), search needs, search needs)
+    let q = c .before .before .before .before .before .before .pre in
+    let f = c .before .before .before .before .before .frames .result in
+    let n = c .before .before .before .before .count .result in
+    let a = both-true (c .before .before .before .before .before .before .args .rows) (leb 1 f && (leb f 1024 && leb n 512)) (c .before .before .before .if1 .taken) .1 in
+    let b = both-true (leb f 1024) (leb n 512) (both-true (leb 1 f) (leb f 1024 && leb n 512) a .1) in
+    (leb-true _ _ (b .0), leb-true _ _ (b .1), search needs, q .0, q .1)
 
 returns : tie.Need-returns
 returns c =
-    let s = c .before .before .before .before .before .before .before .before .before .before .before .args .s in
-    let w : length (s .ranges) ≡ 512 = simp length-map at (c .before .before .before .before .before .before .before .before .before .before .before .good .0 .1 .1 .1 .1 .1 .0 .1 .0 .1) in
-    let v : length (s .places) ≡ 1024 = simp length-map at (c .before .before .before .before .before .before .before .before .before .before .before .good .0 .1 .1 .1 .1 .1 .1 .0 .1 .0 .1) in
-    let z : Sized s = record { ranges = w; places = v; free = search needs } in
-    let h = sym (c .before .before .before .before .before .before .before .before .before .before .counts .ensures) ∙ c .before .before .before .before .before .before .before .before .before .if1 .taken in
-    let r = c .before .before .before .before .before .before .before .load .ensures in
-    let t = c .before .before .before .before .before .before .if2 .taken in
-    examined s _ (r .1 t) z (counts-says s h .1) _ _ _ h (sym (r .0) ∙ t) (c .tests .ensures)
+    λ s B.
+    let f = c .before .before .before .before .before .before .frames .ensures ∙ B .frames in
+    let n = c .before .before .before .before .before .count .ensures ∙ B .count in
+    examined-so s _ _ _ _ _ B (rw (f, n) at (c .before .before .before .before .if1 .taken)) (rw (f, n) at (c .tests .ensures))
 
 returns-2 : tie.Need-returns-2
 returns-2 c =
-    let s = c .before .before .before .before .before .args .s in
-    let w : length (s .ranges) ≡ 512 = simp length-map at (c .before .before .before .before .before .good .0 .1 .1 .1 .1 .1 .0 .1 .0 .1) in
-    let v : length (s .places) ≡ 1024 = simp length-map at (c .before .before .before .before .before .good .0 .1 .1 .1 .1 .1 .1 .0 .1 .0 .1) in
-    let z : Sized s = record { ranges = w; places = v; free = search needs } in
-    let h = sym (c .before .before .before .before .counts .ensures) ∙ c .before .before .before .if1 .taken in
-    let r = c .before .load .ensures in
-    (sound-ranges s _ h refl (slots-none s (sym (r .0) ∙ c .if2 .left)), z, λ e. absurd (false≢true e), λ e. absurd (false≢true e))
-
-returns-3 : tie.Need-returns-3
-returns-3 c =
-    let s = c .before .before .args .s in
-    let w : length (s .ranges) ≡ 512 = simp length-map at (c .before .before .good .0 .1 .1 .1 .1 .1 .0 .1 .0 .1) in
-    let v : length (s .places) ≡ 1024 = simp length-map at (c .before .before .good .0 .1 .1 .1 .1 .1 .1 .0 .1 .0 .1) in
-    let z : Sized s = record { ranges = w; places = v; free = search needs } in
-    (sound-none s (sym (c .before .counts .ensures) ∙ c .if1 .left), z, λ e. absurd (false≢true e), λ e. absurd (false≢true e))
+    λ s B.
+    let f = c .before .before .frames .ensures ∙ B .frames in
+    let n = c .before .count .ensures ∙ B .count in
+    examined-not s _ _ _ _ B (rw (f, n) at (c .if1 .left))
 
 pub examine-spec : {M : Type 1} → statement M
-examine-spec =
-    tie.close (tie.spec counts-requires load-requires tests-requires returns returns-2 returns-3)
+examine-spec = tie.close (tie.spec frames-requires count-requires tests-requires returns returns-2)

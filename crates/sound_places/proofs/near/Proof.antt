@@ -36,11 +36,25 @@ returns c =
     let h = c .before .hit .ensures in
     record { low = omega (arith, h .low); hit = h .hit }
 
+add-if2 : tie.Need-add-if2
+add-if2 c = search needs
+
+add-hit : tie.Need-add-hit
+add-hit c = search needs
+
+hit-requires-2 : tie.Need-hit-requires-2
+hit-requires-2 c κs = search needs
+
+returns-2 : tie.Need-returns-2
+returns-2 c =
+    let h = c .before .hit2 .ensures in
+    record { low = omega (arith, h .low); hit = h .hit }
+
 guess-requires : tie.Need-guess-requires
 guess-requires c κs = search needs
 
-returns-2 : tie.Need-returns-2
-returns-2 c = search needs
+returns-3 : tie.Need-returns-3
+returns-3 c = search needs
 
 pub near-spec : {M : Type 1} → statement M
 near-spec =
@@ -52,5 +66,9 @@ near-spec =
     cast-hit
     hit-requires
     returns
+    add-if2
+    add-hit
+    hit-requires-2
+    returns-2
     guess-requires
-    returns-2)
+    returns-3)

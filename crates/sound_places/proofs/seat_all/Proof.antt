@@ -1,11 +1,9 @@
 -- `sound_places::seat_all` meets its contract. The loop's invariant: the frames of the words below `i` pass, and are chained. The measure is the number of words left.
 use mathlib.Core.Path.{_≡_, sym, _∙_}
 use mathlib.Core.Bool.{true, false≢true}
-use Prim.Native.Nat.{_+_, _-_, _*_, _≤_, min}
+use Prim.Native.Nat.{_+_, _-_, _*_, _≤_, _<_, min}
 use native.Mathlib.Omega.{arith}
 use lib.ListN.{getD}
-use mir.Syntax.{w64}
-use mir.Val.{Fits}
 use borrow.Author.Needs.{needs}
 use Rattle.lists.specs.Every.{allBelow, below-zero}
 use Rattle.sound_places.specs.Words.{below-low, free-word, placed-free, placedAt?, seated-free, seated-none, spotsOf, Seated}
@@ -13,17 +11,17 @@ use Rattle.sound_places.proofs.seat_all.Statement.{statement}
 use Rattle.sound_places.proofs.seat_all.Tie as tie
 
 abbrev Inv-loop : tie.InvT-loop
-Inv-loop sheet holders links₀ count frames free seen₀ i₀ links seen i = (i ≤ 16) × Seated sheet holders count (min (i * 64) frames) links seen × (allBelow (placedAt? sheet holders) (min (i * 64) frames) ≡ true)
+Inv-loop free sheet holders links₀ count frames seen₀ i₀ links seen i = (i ≤ 16) × Seated sheet holders count (min (i * 64) frames) links seen × (allBelow (placedAt? sheet holders) (min (i * 64) frames) ≡ true)
 
 abbrev μ-loop : tie.MeasureT-loop
-μ-loop sheet holders links₀ count frames free seen₀ i₀ links seen i = 16 - i
+μ-loop free sheet holders links₀ count frames seen₀ i₀ links seen i = 16 - i
 
 loop-holds : tie.Need-loop-holds Inv-loop μ-loop
 loop-holds c =
-    let a = c .before .before .args in
+    let a = c .before .before .before .args in
     let e : min 0 (a .frames) ≡ 0 = omega arith in (
       search needs,
-      rw (c .before .before .pre .2, e) (seated-none (a .sheet .now) (a .holders .now) (a .count)),
+      rw (c .before .before .before .pre .2, e) (seated-none (a .sheet .now) (a .holders .now) (a .count)),
       rw e (below-zero (placedAt? (a .sheet .now) (a .holders .now))),
     )
 
@@ -33,8 +31,8 @@ mul-loop c = search needs
 mul-if1 : tie.Need-mul-if1 Inv-loop μ-loop
 mul-if1 c = search needs
 
-array-read-if1 : tie.Need-array-read-if1 Inv-loop μ-loop
-array-read-if1 c = search needs
+shared-slice-read-if1 : tie.Need-shared-slice-read-if1 Inv-loop μ-loop
+shared-slice-read-if1 c = search needs
 
 mul-least : tie.Need-mul-least Inv-loop μ-loop
 mul-least c = search needs
@@ -50,9 +48,9 @@ mul-seat-frames c = search needs
 
 seat-frames-requires : tie.Need-seat-frames-requires Inv-loop μ-loop
 seat-frames-requires c κs =
-    let a = c .before .before .before .before .before .before .before .before .args in
-    let p = c .before .before .before .before .before .before .before .before .pre in
-    let l = c .before .before .before .before .before .loop in
+    let a = c .before .before .before .before .before .before .before .before .before .before .args in
+    let p = c .before .before .before .before .before .before .before .before .before .before .pre in
+    let l = c .before .before .before .before .before .before .loop in
     let r = c .before .before .least .ensures in
     let e : min (l .i * 64) (a .frames) ≡ l .i * 64 = omega arith in
     (omega arith, omega (arith, p .0), p .1, rw e at (l .inv .1), rw e at (l .inv .2))
@@ -65,8 +63,8 @@ loop-less c = search needs
 
 loop-again : tie.Need-loop-again Inv-loop μ-loop
 loop-again c =
-    let a = c .before .before .before .before .before .before .before .before .before .before .args in
-    let l = c .before .before .before .before .before .before .before .loop in
+    let a = c .before .before .before .before .before .before .before .before .before .before .before .before .args in
+    let l = c .before .before .before .before .before .before .before .before .loop in
     let r = c .before .before .before .before .least .ensures in
     let s = c .before .seat-frames .ensures in
     let e : min ((l .i + 1) * 64) (a .frames) ≡ c .before .before .before .before .least .result = omega arith in
@@ -74,8 +72,8 @@ loop-again c =
 
 returns : tie.Need-returns Inv-loop μ-loop
 returns c =
-    let a = c .before .before .before .before .before .before .before .before .before .before .args in
-    let l = c .before .before .before .before .before .before .before .loop in
+    let a = c .before .before .before .before .before .before .before .before .before .before .before .before .args in
+    let l = c .before .before .before .before .before .before .before .before .loop in
     let r = c .before .before .before .before .least .ensures in
     let s = c .before .seat-frames .ensures in
     (below-low (placedAt? (a .sheet .now) (a .holders .now)) (c .before .before .before .before .least .result) (a .frames) (omega arith) (sym (s .0) ∙ c .if2 .left), λ e. absurd (false≢true e), λ e. absurd (false≢true e))
@@ -88,14 +86,14 @@ loop-less-2 c = search needs
 
 loop-again-2 : tie.Need-loop-again-2 Inv-loop μ-loop
 loop-again-2 c =
-    let a = c .before .before .before .before .before .args in
-    let p = c .before .before .before .before .before .pre in
-    let l = c .before .before .loop in
+    let a = c .before .before .before .before .before .before .before .args in
+    let p = c .before .before .before .before .before .before .before .pre in
+    let l = c .before .before .before .loop in
     let e : min (l .i * 64) (a .frames) ≡ l .i * 64 = omega arith in
     let b : l .i * 64 ≤ min ((l .i + 1) * 64) (a .frames) = omega arith in
-    let f : Fits w64 (getD (a .t1) (l .i) 0) = search needs in
-    let v : getD (a .t1) (l .i) 0 ≡ 18446744073709551615 = omega (arith, f .fits) in
-    let o = free-word (a .frames) (spotsOf (a .sheet .now)) (a .t1) (l .i) (omega arith) v (p .3) in (
+    let f : getD (a .free .now) (l .i) 0 < 18446744073709551616 = omega (arith, c .before .before .before .before .before .before .shared-slice-known .given (l .i)) in
+    let v : getD (a .free .now) (l .i) 0 ≡ 18446744073709551615 = omega (arith, f) in
+    let o = free-word (a .frames) (spotsOf (a .sheet .now)) (a .free .now) (l .i) (omega arith) v (p .4) in (
       omega arith,
       seated-free (a .sheet .now) (a .holders .now) (l .i * 64) (min ((l .i + 1) * 64) (a .frames)) b o (a .count) (l .links) (l .seen) (rw e at (l .inv .1)),
       placed-free (a .sheet .now) (a .holders .now) (l .i * 64) (min ((l .i + 1) * 64) (a .frames)) b o (rw e at (l .inv .2)),
@@ -103,7 +101,7 @@ loop-again-2 c =
 
 returns-2 : tie.Need-returns-2 Inv-loop μ-loop
 returns-2 c =
-    let a = c .before .before .before .before .args in
+    let a = c .before .before .before .before .before .args in
     let l = c .before .loop in
     let e : min (l .i * 64) (a .frames) ≡ a .frames = omega arith in
     let s = rw e at (l .inv .1) in
@@ -118,7 +116,7 @@ seat-all-spec =
     loop-holds
     mul-loop
     mul-if1
-    array-read-if1
+    shared-slice-read-if1
     mul-least
     add-least
     least-requires

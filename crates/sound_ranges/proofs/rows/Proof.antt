@@ -1,26 +1,39 @@
--- `sound_ranges::rows` meets its contract. The loop's invariant: the slots from `i` on pass exactly if all do, and the ranges before are in the sheet. The measure is the
--- number of slots left.
-use mathlib.Core.Path.{_≡_, sym, _∙_}
+-- `sound_ranges::rows` meets its contract. The loop's invariant: the slots from `i` on pass exactly if all do, and the ranges before are in the sheet, with zeros behind them.
+-- The measure is the number of slots left.
+use mathlib.Core.Path.{_≡_, refl, sym, _∙_}
 use mathlib.Core.Bool.{false≢true}
 use Prim.Native.Nat.{_-_, _+_, _≤_, _<_, min}
+use lib.Dec.{leb}
 use lib.ListN.{getD, length, length-set}
+use borrow.Author.Tests.{le-leb, lt-leb}
+use Rattle.lists.specs.Every.{none-both}
 use Rattle.table.specs.Table.{zeroRange}
-use Rattle.sheet.specs.Load.{Kept, Rows, rows-apart, rows-next}
+use Rattle.sheet.specs.Edits.{Narrow}
+use Rattle.sheet.specs.Load.{Blanked, Kept, Rows, blanked-next, kept-same, rows-apart, rows-next, rows-none}
 use Rattle.sheet.specs.Sheet.{tagOf}
-use Rattle.sound_ranges.specs.Slots.{rest-next, rest-wrong, slots?, slots-end, tagged-fails, tagged-passes, used-fails, used-turn}
+use Rattle.sound_ranges.specs.Slots.{loaded, rest-next, rest-wrong, slots?, slots-end, slots-rest, used-fails, used-turn}
 use borrow.Author.Needs.{needs}
 use native.Mathlib.Omega.{arith}
 use Rattle.sound_ranges.proofs.rows.Statement.{statement}
 use Rattle.sound_ranges.proofs.rows.Tie as tie
 
 abbrev Inv-loop : tie.InvT-loop
-Inv-loop count live sheet₀ ranges low₀ i₀ sheet low i = (i ≤ 512) × (slots? live ranges count low i ≡ slots? live ranges count 0 0) × (length sheet ≡ 2579) × Rows ranges (min i count) sheet × Kept 0 1536 sheet₀ sheet
+Inv-loop count live sheet₀ ranges low₀ i₀ sheet low i = (i ≤ 512) × (slots? live ranges count low i ≡ slots? live ranges count 0 0) × (length sheet ≡ 2579) × Rows ranges (min i count) sheet × Kept 0 1536 sheet₀ sheet × Blanked (min i count) sheet
 
 abbrev μ-loop : tie.MeasureT-loop
 μ-loop count live sheet₀ ranges low₀ i₀ sheet low i = 512 - i
 
+returns : tie.Need-returns Inv-loop μ-loop
+returns c =
+    let a = c .before .args in
+    let h : 512 < a .count = omega arith in
+    (rw (lt-leb (a .count) 512 h), λ e. absurd (false≢true e), search needs, kept-same 0 1536 (a .sheet .now))
+
 loop-holds : tie.Need-loop-holds Inv-loop μ-loop
-loop-holds c = search needs
+loop-holds c =
+    let a = c .before .args in
+    let p : min 0 (a .count) ≡ 0 = omega arith in
+    (search needs, refl, search needs, rw p (rows-none (a .t1) (a .sheet .now)), kept-same 0 1536 (a .sheet .now), rw p (c .before .pre .1))
 
 mul-r : tie.Need-mul-r Inv-loop μ-loop
 mul-r c = search needs
@@ -28,16 +41,8 @@ mul-r c = search needs
 array-copy-out-r : tie.Need-array-copy-out-r Inv-loop μ-loop
 array-copy-out-r c = search needs
 
-row-tag-requires : tie.Need-row-tag-requires Inv-loop μ-loop
-row-tag-requires c κs = search needs
-
-returns : tie.Need-returns Inv-loop μ-loop
-returns c =
-    let a = c .before .before .before .before .before .before .args in
-    let l = c .before .before .before .before .before .loop in
-    let r = getD (a .t1) (l .i) zeroRange in
-    let t = tagged-fails (a .live) (l .low) r (c .before .row-tag .result) (c .before .row-tag .ensures .0) (c .if2 .taken) in
-    (sym (used-fails (a .live) (a .t1) (a .count) (search needs) (l .low) (l .i) (search needs) t) ∙ l .inv .1, λ e. absurd (false≢true e))
+lies-requires : tie.Need-lies-requires Inv-loop μ-loop
+lies-requires c κs = search needs
 
 cast-first : tie.Need-cast-first Inv-loop μ-loop
 cast-first c = search needs
@@ -47,8 +52,11 @@ mul-first c = search needs
 
 add-first : tie.Need-add-first Inv-loop μ-loop
 add-first c =
-    let N = c .before .before .row-tag .ensures .1 (omega arith) in
+    let s = c .before .before .lies .ensures .1 (c .before .if3 .taken) in
     record { fits = omega arith }
+
+tag-requires : tie.Need-tag-requires Inv-loop μ-loop
+tag-requires c κs = search needs
 
 mul-sheet : tie.Need-mul-sheet Inv-loop μ-loop
 mul-sheet c = search needs
@@ -91,7 +99,7 @@ cast-low c = search needs
 
 add-low : tie.Need-add-low Inv-loop μ-loop
 add-low c =
-    let N = c .before .before .before .before .before .row-tag .ensures .1 (omega arith) in
+    let s = c .before .before .before .before .before .before .lies .ensures .1 (c .before .before .before .before .before .if3 .taken) in
     record { fits = omega arith }
 
 add-i : tie.Need-add-i Inv-loop μ-loop
@@ -102,23 +110,34 @@ loop-less c = search needs
 
 loop-again : tie.Need-loop-again Inv-loop μ-loop
 loop-again c =
-    let a = c .before .before .before .before .before .before .before .before .before .before .args in
-    let l = c .before .before .before .before .before .before .before .before .before .loop in
+    let a = c .before .before .before .before .before .before .before .before .before .before .before .before .args in
+    let l = c .before .before .before .before .before .before .before .before .before .before .loop in
     let r = getD (a .t1) (l .i) zeroRange in
-    let e = c .before .before .before .before .before .row-tag .ensures in
-    let h : 0 < c .before .before .before .before .before .row-tag .result = omega arith in
-    let t = tagged-passes (a .live) (l .low) r _ (e .0) h in
-    let x : c .before .before .before .before .before .row-tag .result ≡ tagOf (r .backing) = e .0 ∙ rw t in
+    let e = c .before .before .before .before .before .before .lies .ensures in
+    let h = c .before .before .before .before .before .if3 .taken in
+    let t = sym (e .0) ∙ h in
+    let k = c .before .before .before .tag .ensures in
+    let N : Narrow r = record { object = search needs; start = e .1 h; length = search needs; offset = search needs; backing = k .1 } in
     let u : l .i < a .count = search needs in
     let p : min (l .i) (a .count) ≡ l .i = omega arith in
     let q : min (l .i + 1) (a .count) ≡ l .i + 1 = omega arith in
-    let R = rw p at (l .inv .3) in (
+    let R = rw p at (l .inv .3) in
+    let Z = rw p at (l .inv .5) in (
       search needs,
       sym (used-turn (a .live) (a .t1) (a .count) (search needs) (l .low) (l .i) u t) ∙ l .inv .1,
       simp length-set (l .inv .2),
-      rw (q, x) (rows-next (a .t1) (l .sheet) (l .i) (l .inv .2) (search needs) (e .1 h) R),
-      rw x (rows-apart (a .t1) (l .sheet) (l .i) (l .inv .2) (search needs) (a .sheet .now) (l .inv .4)),
+      rw (q, k .0) (rows-next (a .t1) (l .sheet) (l .i) (l .inv .2) (search needs) N R),
+      rw (k .0) (rows-apart (a .t1) (l .sheet) (l .i) (l .inv .2) (search needs) (a .sheet .now) (l .inv .4)),
+      rw (q, k .0) (blanked-next (a .t1) (l .sheet) (l .i) (l .inv .2) (search needs) Z),
     )
+
+returns-2 : tie.Need-returns-2 Inv-loop μ-loop
+returns-2 c =
+    let a = c .before .before .before .before .before .before .before .args in
+    let l = c .before .before .before .before .before .loop in
+    let t = sym (c .before .lies .ensures .0) ∙ c .if3 .left in
+    let f = sym (used-fails (a .live) (a .t1) (a .count) (search needs) (l .low) (l .i) (search needs) t) ∙ l .inv .1 in
+    (rw (← f) (sym (none-both (leb (a .count) 512))), λ e. absurd (false≢true e), l .inv .2, l .inv .4)
 
 zero-slot-requires : tie.Need-zero-slot-requires Inv-loop μ-loop
 zero-slot-requires c κs = search needs
@@ -131,9 +150,9 @@ loop-less-2 c = search needs
 
 loop-again-2 : tie.Need-loop-again-2 Inv-loop μ-loop
 loop-again-2 c =
-    let a = c .before .before .before .before .before .before .args in
+    let a = c .before .before .before .before .before .before .before .args in
     let l = c .before .before .before .before .before .loop in
-    let z = sym (c .before .zero-slot .ensures) ∙ c .if3 .taken in
+    let z = sym (c .before .zero-slot .ensures) ∙ c .if4 .taken in
     let u : a .count ≤ l .i = search needs in
     let q : min (l .i + 1) (a .count) ≡ min (l .i) (a .count) = omega arith in (
       search needs,
@@ -141,21 +160,29 @@ loop-again-2 c =
       l .inv .2,
       rw q (l .inv .3),
       l .inv .4,
+      rw q (l .inv .5),
     )
-
-returns-2 : tie.Need-returns-2 Inv-loop μ-loop
-returns-2 c =
-    let a = c .before .before .before .before .before .before .args in
-    let l = c .before .before .before .before .before .loop in
-    let z = sym (c .before .zero-slot .ensures) ∙ c .if3 .left in
-    (sym (rest-wrong (a .live) (a .t1) (a .count) (search needs) (l .low) (l .i) (search needs) (search needs) z) ∙ l .inv .1, λ e. absurd (false≢true e))
 
 returns-3 : tie.Need-returns-3 Inv-loop μ-loop
 returns-3 c =
-    let a = c .before .before .args in
+    let a = c .before .before .before .before .before .before .before .args in
+    let l = c .before .before .before .before .before .loop in
+    let z = sym (c .before .zero-slot .ensures) ∙ c .if4 .left in
+    let f = sym (rest-wrong (a .live) (a .t1) (a .count) (search needs) (l .low) (l .i) (search needs) (search needs) z) ∙ l .inv .1 in
+    (rw (← f) (sym (none-both (leb (a .count) 512))), λ e. absurd (false≢true e), l .inv .2, l .inv .4)
+
+returns-4 : tie.Need-returns-4 Inv-loop μ-loop
+returns-4 c =
+    let a = c .before .before .before .args in
     let l = c .before .loop in
-    let q : min (l .i) (a .count) ≡ a .count = omega (arith, c .before .before .pre .0) in
-    (sym (slots-end (a .live) (a .t1) (a .count) (search needs) (l .low) (l .i) (search needs) (search needs)) ∙ l .inv .1, λ _. (rw q at (l .inv .3), l .inv .4, l .inv .2))
+    let m : a .count ≤ 512 = search needs in
+    let q : min (l .i) (a .count) ≡ a .count = omega arith in
+    let f = sym (slots-end (a .live) (a .t1) (a .count) (search needs) (l .low) (l .i) (search needs) (search needs)) ∙ l .inv .1 in (
+      rw (le-leb (a .count) 512 m) f,
+      λ _. loaded (a .t1) (a .count) (search needs) m (slots-rest (a .t1) (a .count) (a .live) (sym f)) (a .sheet .now) (l .sheet) (l .inv .2) (rw q at (l .inv .3)) (rw q at (l .inv .5)) (l .inv .4),
+      l .inv .2,
+      l .inv .4,
+    )
 
 pub rows-spec : {M : Type 1} → statement M
 rows-spec =
@@ -163,14 +190,15 @@ rows-spec =
     (tie.spec
     Inv-loop
     μ-loop
+    returns
     loop-holds
     mul-r
     array-copy-out-r
-    row-tag-requires
-    returns
+    lies-requires
     cast-first
     mul-first
     add-first
+    tag-requires
     mul-sheet
     element-write-sheet
     cast-sheet
@@ -188,9 +216,10 @@ rows-spec =
     add-i
     loop-less
     loop-again
+    returns-2
     zero-slot-requires
     add-i-2
     loop-less-2
     loop-again-2
-    returns-2
-    returns-3)
+    returns-3
+    returns-4)

@@ -16,27 +16,34 @@ use Rattle.enter.specs.Enter.{entered-charted, refuses, tried}
 use Rattle.view.specs.Showing.{refused-none, accepts-length, frame-shown, frame-inside}
 use native.Mathlib.Omega.{arith}
 use borrow.Author.Needs.{needs}
+use Rattle.sound.specs.Parts.{brought}
 use Rattle.view.proofs.frame_shown.Statement.{statement}
 use Rattle.view.proofs.frame_shown.Tie as tie
+
+load-requires : tie.Need-load-requires
+load-requires c κs = search needs
+
+rows-requires : tie.Need-rows-requires
+rows-requires c κs = search needs
 
 examine-requires : tie.Need-examine-requires
 examine-requires c κs = search needs
 
 show-requires : tie.Need-show-requires
-show-requires c κs = λ t. tried (c .before .examine .ensures) .enters t .sound
+show-requires c κs = λ t. tried (c .before .examine .ensures _ (brought (c .before .before .before .before .before .before .before .before .load .ensures) (c .before .before .before .before .before .rows .ensures))) .enters t .sound
 
 returns : tie.Need-returns
 returns c =
-    let a = c .before .before .before .before .before .before .before .args in
+    let a = c .before .before .before .before .before .before .before .before .before .before .before .before .args in
     let q = c .before .show in
-    let T = tried (c .before .before .before .examine .ensures) in
+    let T = tried (c .before .before .before .examine .ensures _ (brought (c .before .before .before .before .before .before .before .before .before .before .load .ensures) (c .before .before .before .before .before .before .before .rows .ensures))) in
     (λ x e. refused-none (a .s) x (a .object) (a .page .0) (q .result) (c .if1 .taken) (refuses T x _ (q .ensures x e)), tt)
 
 line-of-requires : tie.Need-line-of-requires
 line-of-requires c κs =
-    let a = c .before .before .before .before .before .before .before .args in
+    let a = c .before .before .before .before .before .before .before .before .before .before .before .before .args in
     let q = c .before .show in
-    let T = tried (c .before .before .before .examine .ensures) in
+    let T = tried (c .before .before .before .examine .ensures _ (brought (c .before .before .before .before .before .before .before .before .before .before .load .ensures) (c .before .before .before .before .before .before .before .rows .ensures))) in
     let k : q .result ≡ 0 = omega (arith, c .if1 .left) in
     let r : (x : List ℕ) → length x ≡ a .pool → 0 ≡ refusal (a .s) x (show (a .object) (a .page .0)) = λ x e. sym k ∙ refuses T x _ (q .ensures x e) in
     let A = accepts-length (a .s) (a .pool) (a .object) (a .page .0) r in
@@ -44,9 +51,9 @@ line-of-requires c κs =
 
 locate-requires : tie.Need-locate-requires
 locate-requires c κs =
-    let a = c .before .before .before .before .before .before .before .before .before .before .args in
+    let a = c .before .before .before .before .before .before .before .before .before .before .before .before .before .before .before .args in
     let q = c .before .before .before .before .show in
-    let T = tried (c .before .before .before .before .before .before .examine .ensures) in
+    let T = tried (c .before .before .before .before .before .before .examine .ensures _ (brought (c .before .before .before .before .before .before .before .before .before .before .before .before .before .load .ensures) (c .before .before .before .before .before .before .before .before .before .before .rows .ensures))) in
     let k : q .result ≡ 0 = omega (arith, c .before .before .before .if1 .left) in
     let r : (x : List ℕ) → length x ≡ a .pool → 0 ≡ refusal (a .s) x (show (a .object) (a .page .0)) = λ x e. sym k ∙ refuses T x _ (q .ensures x e) in
     let A = accepts-length (a .s) (a .pool) (a .object) (a .page .0) r in
@@ -61,9 +68,9 @@ enum-known-l c = search needs
 
 returns-2 : tie.Need-returns-2
 returns-2 c =
-    let a = c .before .before .before .before .before .before .before .before .before .before .before .before .before .args in
+    let a = c .before .before .before .before .before .before .before .before .before .before .before .before .before .before .before .before .before .before .args in
     let q = c .before .before .before .before .before .before .before .show in
-    let T = tried (c .before .before .before .before .before .before .before .before .before .examine .ensures) in
+    let T = tried (c .before .before .before .before .before .before .before .before .before .examine .ensures _ (brought (c .before .before .before .before .before .before .before .before .before .before .before .before .before .before .before .before .load .ensures) (c .before .before .before .before .before .before .before .before .before .before .before .before .before .rows .ensures))) in
     let k : q .result ≡ 0 = omega (arith, c .before .before .before .before .before .before .if1 .left) in
     let r : (x : List ℕ) → length x ≡ a .pool → 0 ≡ refusal (a .s) x (show (a .object) (a .page .0)) = λ x e. sym k ∙ refuses T x _ (q .ensures x e) in
     let A = accepts-length (a .s) (a .pool) (a .object) (a .page .0) r in
@@ -74,9 +81,9 @@ returns-2 c =
 
 returns-3 : tie.Need-returns-3
 returns-3 c =
-    let a = c .before .before .before .before .before .before .before .before .before .before .before .before .before .before .args in
+    let a = c .before .before .before .before .before .before .before .before .before .before .before .before .before .before .before .before .before .before .before .args in
     let q = c .before .before .before .before .before .before .before .before .show in
-    let T = tried (c .before .before .before .before .before .before .before .before .before .before .examine .ensures) in
+    let T = tried (c .before .before .before .before .before .before .before .before .before .before .examine .ensures _ (brought (c .before .before .before .before .before .before .before .before .before .before .before .before .before .before .before .before .before .load .ensures) (c .before .before .before .before .before .before .before .before .before .before .before .before .before .before .rows .ensures))) in
     let k : q .result ≡ 0 = omega (arith, c .before .before .before .before .before .before .before .if1 .left) in
     let r : (x : List ℕ) → length x ≡ a .pool → 0 ≡ refusal (a .s) x (show (a .object) (a .page .0)) = λ x e. sym k ∙ refuses T x _ (q .ensures x e) in
     let A = accepts-length (a .s) (a .pool) (a .object) (a .page .0) r in
@@ -90,6 +97,8 @@ pub frame-shown-spec : {M : Type 1} → statement M
 frame-shown-spec =
     tie.close
     (tie.spec
+    load-requires
+    rows-requires
     examine-requires
     show-requires
     returns
