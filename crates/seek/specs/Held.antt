@@ -16,6 +16,7 @@ use Rattle.table.specs.declared.Found.{Found}
 use Rattle.table.specs.declared.Found.the-variants as found
 use Rattle.table.specs.declared.PageRange.{PageRange}
 use Rattle.look.specs.declared.Located.{Located}
+use Rattle.look.specs.declared.PageAt.{PageAt}
 use Rattle.look.specs.declared.PageAt.the-variants.{Present}
 use Rattle.look.specs.declared.State.the-variants as state
 use Rattle.store.specs.declared.Store.{Store}
@@ -140,6 +141,9 @@ module _ (w h : List ℕ) (b : ℕ) (few : storeOf w .count ≤ 512) (p : 0 < b)
       rw (le-ltb 1 (from 0) (omega arith))
 
 -- the page of a frame has a backing with a number
+pub record Numbered (p : PageAt) : Type 0 where
+  pub positive : (l : Located) → p ≡ Present l → 0 < l .backing
+
 module _ (s : Store) (n : s .frames ≤ length (s .places)) (g : ℕ) (l : Located) where
   abbrev at : ℕ → PageRange
   at k = getD (s .ranges) k zeroRange

@@ -6,15 +6,18 @@ use look::State;
 use table::Found;
 use table::PageRange;
 ghost use mathlib.Core.Path.{_≡_};
+ghost use mathlib.Core.Bool.{true};
 ghost use Prim.Native.Nat.{_≤_, _<_};
 ghost use lib.ListN.{take};
 ghost use Rattle.ranges.specs.Range.{from, upto};
-ghost use Rattle.table.specs.Table.{ranged, Small};
+ghost use Rattle.table.specs.declared.Found.the-variants.{At};
+ghost use Rattle.table.specs.Table.{coveringAt, ranged, rangedOf, Small, Table};
+ghost use Rattle.store.specs.Abs.{used};
 ghost use Rattle.places.specs.Places.{frameAt};
 ghost use Rattle.look.specs.Look.{inRange, located, privateIn, sharedIn, seen};
 ghost use Rattle.sheet.specs.Sheet.{storeOf};
 ghost use Rattle.seek.specs.Framed.{Charted, Framed, Lone};
-ghost use Rattle.seek.specs.Held.{Held};
+ghost use Rattle.seek.specs.Held.{Held, Numbered};
 
 // The frame that stands at this backing and index: a walk along the chain of that place.
 pub fn frame_of(sheet: &[u64; 2579], links: &[u16; 2048], backing: u32, index: u32) -> Frame
@@ -47,17 +50,72 @@ fn in_range(sheet: &[u64; 2579], links: &[u16; 2048], r: PageRange, g: usize) ->
     }
 }
 
+// Whether the range in this slot covers page g of the line.
+fn covers(sheet: &[u64; 2579], slot: usize, g: usize) -> bool
+    requires { ⌜ Table (storeOf (now sheet) .ranges) (storeOf (now sheet) .count) ⌝ }
+    ensures { λ q. ⌜ (q ≡ true → At slot ≡ coveringAt g (rangedOf (used (storeOf (now (sheet .entry)))))) ⌝ }
+{
+    let n = sheet::count(sheet);
+    if n <= slot {
+        return false;
+    }
+    let r = sheet::range(sheet, slot);
+    let s = r.first();
+    if g < s {
+        return false;
+    }
+    let e = r.end();
+    g < e
+}
+
+// The slot of the range that covers page g of the line: the slot `hint`, or the one behind it, or what halving finds.
+fn slot_near(sheet: &[u64; 2579], g: usize, hint: usize) -> Found
+    requires { ⌜ (Table (storeOf (now sheet) .ranges) (storeOf (now sheet) .count)) × (g < 1000000000000000000) ⌝ }
+    ensures { λ q. ⌜ q ≡ coveringAt g (rangedOf (used (storeOf (now (sheet .entry))))) ⌝ }
+{
+    if covers(sheet, hint, g) {
+        return Found::At(hint);
+    }
+    if hint < 512 {
+        if covers(sheet, hint + 1, g) {
+            return Found::At(hint + 1);
+        }
+    }
+    let b = rows::begin_before(sheet, g + 1);
+    table::reaching(b, g)
+}
+
+// Where a page is, and a slot to begin at when the next page is looked for.
+pub struct Near {
+    pub slot: usize,
+    pub page: PageAt,
+}
+
+// Page g of the line, looked for from the slot `hint` on.
+pub fn locate_near(sheet: &[u64; 2579], links: &[u16; 2048], g: usize, hint: usize) -> Near
+    requires { ⌜ (Charted (now sheet) (now links)) × (g < 1000000000000000000) ⌝ }
+    ensures { λ q. ⌜ q .page ≡ located (storeOf (now (sheet .entry))) g ⌝ }
+{
+    match slot_near(sheet, g, hint) {
+        Found::Missing => Near {
+            slot: hint,
+            page: PageAt::Absent,
+        },
+        Found::At(slot) => {
+            let r = sheet::range(sheet, slot);
+            let page = in_range(sheet, links, r, g);
+            Near { slot, page }
+        }
+    }
+}
+
 // Page g of the line.
 pub fn locate(sheet: &[u64; 2579], links: &[u16; 2048], g: usize) -> PageAt
     requires { ⌜ (Charted (now sheet) (now links)) × (g < 1000000000000000000) ⌝ }
     ensures { λ q. ⌜ q ≡ located (storeOf (now (sheet .entry))) g ⌝ }
 {
-    let b = rows::begin_before(sheet, g + 1);
-    let r = b.last;
-    match table::reaching(b, g) {
-        Found::Missing => PageAt::Absent,
-        Found::At(_) => in_range(sheet, links, r, g),
-    }
+    let near = locate_near(sheet, links, g, 0);
+    near.page
 }
 
 // "A backing held by two or more ranges is shared.": a walk along the chain of the backing, until two are met.
@@ -82,28 +140,53 @@ pub fn sharing(sheet: &[u64; 2579], holders: &[u16; 2048], backing: u32) -> Stat
     State::Private
 }
 
+// The state of a page, and a slot to begin at when the next page is looked for.
+pub struct NearState {
+    pub slot: usize,
+    pub state: State,
+}
+
+// The state of page g of the line, looked for from the slot `hint` on.
+pub fn state_near(
+    sheet: &[u64; 2579],
+    holders: &[u16; 2048],
+    links: &[u16; 2048],
+    g: usize,
+    hint: usize,
+) -> NearState
+    requires { ⌜ (Charted (now sheet) (now links)) × (g < 1000000000000000000) × (Held (now sheet) (now holders)) ⌝ }
+    ensures { λ q. ⌜ q .state ≡ seen (storeOf (now (sheet .entry))) (located (storeOf (now (sheet .entry))) g) ⌝ }
+{
+    let near = locate_near(sheet, links, g, hint);
+    let slot = near.slot;
+    let page = near.page;
+    match page {
+        PageAt::Absent => NearState {
+            slot,
+            state: State::Absent,
+        },
+        PageAt::Present(l) => {
+            let state = sharing(sheet, holders, l.backing);
+            NearState { slot, state }
+        }
+    }
+}
+
 // The state of page g of the line.
 pub fn state_of(sheet: &[u64; 2579], holders: &[u16; 2048], links: &[u16; 2048], g: usize) -> State
     requires { ⌜ (Charted (now sheet) (now links)) × (g < 1000000000000000000) × (Held (now sheet) (now holders)) ⌝ }
     ensures { λ q. ⌜ q ≡ seen (storeOf (now (sheet .entry))) (located (storeOf (now (sheet .entry))) g) ⌝ }
 {
-    match locate(sheet, links, g) {
-        PageAt::Absent => State::Absent,
-        PageAt::Present(l) => sharing(sheet, holders, l.backing),
-    }
+    let near = state_near(sheet, holders, links, g, 0);
+    near.state
 }
 
-// The frame of page g of the line, if it is present and private.
-pub fn private_frame(
-    sheet: &[u64; 2579],
-    holders: &[u16; 2048],
-    links: &[u16; 2048],
-    g: usize,
-) -> Frame
-    requires { ⌜ (Charted (now sheet) (now links)) × (g < 1000000000000000000) × (Held (now sheet) (now holders)) ⌝ }
-    ensures { λ q. ⌜ q ≡ privateIn (storeOf (now (sheet .entry))) (located (storeOf (now (sheet .entry))) g) ⌝ }
+// The frame of a page, if it is present and private.
+fn private_at(sheet: &[u64; 2579], holders: &[u16; 2048], page: PageAt) -> Frame
+    requires { ⌜ (Held (now sheet) (now holders)) × (storeOf (now sheet) .count ≤ 512) × (Numbered page) ⌝ }
+    ensures { λ q. ⌜ q ≡ privateIn (storeOf (now (sheet .entry))) page ⌝ }
 {
-    match locate(sheet, links, g) {
+    match page {
         PageAt::Absent => Frame::Nothing,
         PageAt::Present(l) => match sharing(sheet, holders, l.backing) {
             State::Absent => Frame::Nothing,
@@ -111,4 +194,28 @@ pub fn private_frame(
             State::Shared => Frame::Nothing,
         },
     }
+}
+
+// A frame, or none, and a slot to begin at when the next page is looked for.
+pub struct NearFrame {
+    pub slot: usize,
+    pub frame: Frame,
+}
+
+// The frame of page g of the line, if it is present and private, looked for from the slot `hint` on.
+pub fn private_near(
+    sheet: &[u64; 2579],
+    holders: &[u16; 2048],
+    links: &[u16; 2048],
+    g: usize,
+    hint: usize,
+) -> NearFrame
+    requires { ⌜ (Charted (now sheet) (now links)) × (g < 1000000000000000000) × (Held (now sheet) (now holders)) ⌝ }
+    ensures { λ q. ⌜ q .frame ≡ privateIn (storeOf (now (sheet .entry))) (located (storeOf (now (sheet .entry))) g) ⌝ }
+{
+    let near = locate_near(sheet, links, g, hint);
+    let slot = near.slot;
+    let page = near.page;
+    let frame = private_at(sheet, holders, page);
+    NearFrame { slot, frame }
 }

@@ -24,11 +24,11 @@ from-offset-requires c κs = search needs
 line-of-requires : tie.Need-line-of-requires
 line-of-requires c κs = search needs
 
-private-frame-requires : tie.Need-private-frame-requires
-private-frame-requires c κs = search needs
+private-near-requires : tie.Need-private-near-requires
+private-near-requires c κs = search needs
 
-enum-known-f : tie.Need-enum-known-f
-enum-known-f c = search needs
+enum-known-frame : tie.Need-enum-known-frame
+enum-known-frame c = search needs
 
 -- the page is writable as it is
 stays : (c : tie.After-known-told)
@@ -37,17 +37,17 @@ stays : (c : tie.After-known-told)
     (writable (c .before .before .before .before .before .before .before .args .object) (c .before .before .before .before .before .from-offset .result .0)
     (workOf (storeOf (c .before .before .before .before .before .before .before .args .sheet .now)) (c .before .before .before .before .before .before .before .args .pool .now)))
     (storeOf (c .before .before .before .before .before .before .before .args .sheet .now)) (c .before .before .before .before .before .before .before .args .pool .now)
-    (c .before .f .given .0 .0)
+    (c .before .frame .given .0 .0)
 stays c =
     let b = c .before .before .before .before .before .before .before in
     let s = storeOf (b .args .sheet .now) in
     let x = b .args .pool .now in
     let o = b .args .object in
     let p = c .before .before .before .before .before .from-offset in
-    let f : ℕ = c .before .f .given .0 .0 in
+    let f : ℕ = c .before .frame .given .0 .0 in
     let g : c .before .before .before .before .line-of .result ≡ line o (p .result .0) = c .before .before .before .before .line-of .ensures in
     let h : privateIn s (located s (line o (p .result .0))) ≡ At f =
-    sym (c .before .before .before .private-frame .ensures ∙ ap (λ (z : ℕ). privateIn s (located s z)) g) ∙ c .before .f .given .1 in
+    sym (c .before .before .before .private-near .ensures ∙ ap (λ (z : ℕ). privateIn s (located s z)) g) ∙ c .before .frame .given .1 in
     let P = private-held s x (b .pre .1) o (p .result .0) f h in
     stay-stepped s x (b .pre .1) o (p .result .0) (omega (arith, p .ensures, b .pre .3)) f (P .present) (P .alone)
 
@@ -71,7 +71,7 @@ move-in-requires c κs =
     let q = b .pre in
     let S = stays (c .before .before) in
     let p = c .before .before .before .before .before .before .before .from-offset in
-    let f : ℕ = c .before .before .before .f .given .0 .0 in
+    let f : ℕ = c .before .before .before .frame .given .0 .0 in
     let k = c .before .place in
     let A = made-away (storeOf (a .sheet .now)) (a .pool .now) (q .1) (a .source) (a .object) (p .result .0) (q .2) (omega (arith, p .ensures, q .3)) _ _ _ S in
     let e : (f * 4096 + k .result) / 4096 ≡ f = omega (arith, k .ensures) in
@@ -105,8 +105,8 @@ overcopy-page-spec =
     (tie.spec
     from-offset-requires
     line-of-requires
-    private-frame-requires
-    enum-known-f
+    private-near-requires
+    enum-known-frame
     mul-at
     place-requires
     add-at

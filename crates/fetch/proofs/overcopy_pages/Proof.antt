@@ -11,15 +11,18 @@ use Rattle.fetch.proofs.overcopy_pages.Statement.{statement}
 use Rattle.fetch.proofs.overcopy_pages.Tie as tie
 
 abbrev Inv-loop : tie.InvT-loop
-Inv-loop sheet holders links pool₀ source from object offset n done₀ pool done = Copying (storeOf sheet) pool₀ source from object offset n done (storeOf sheet) pool
+Inv-loop sheet holders links pool₀ source from object offset n slots₀ done₀ pool slots done = Copying (storeOf sheet) pool₀ source from object offset n done (storeOf sheet) pool
 
 abbrev μ-loop : tie.MeasureT-loop
-μ-loop sheet holders links pool₀ source from object offset n done₀ pool done = n - done
+μ-loop sheet holders links pool₀ source from object offset n slots₀ done₀ pool slots done = n - done
 
 loop-holds : tie.Need-loop-holds Inv-loop μ-loop
 loop-holds c =
     let a = c .before .args in
     copying-start (storeOf (a .sheet .now)) (a .pool .now) (a .source) (a .from) (a .object) (a .offset) (a .n) (c .before .pre .1)
+
+add-x : tie.Need-add-x Inv-loop μ-loop
+add-x c = search needs
 
 add-at : tie.Need-add-at Inv-loop μ-loop
 add-at c = search needs
@@ -29,9 +32,6 @@ sub-in-page c = search needs
 
 in-page-requires : tie.Need-in-page-requires Inv-loop μ-loop
 in-page-requires c κs = search needs
-
-add-overcopy-page : tie.Need-add-overcopy-page Inv-loop μ-loop
-add-overcopy-page c = search needs
 
 overcopy-page-requires : tie.Need-overcopy-page-requires Inv-loop μ-loop
 overcopy-page-requires c κs =
@@ -48,12 +48,12 @@ loop-less c = search needs
 
 loop-again : tie.Need-loop-again Inv-loop μ-loop
 loop-again c =
-    let a = c .before .before .before .before .before .before .before .before .before .args in
-    let q = c .before .before .before .before .before .before .before .before .before .pre in
-    let l = c .before .before .before .before .before .before .before .loop in
+    let a = c .before .before .before .before .before .before .before .before .before .before .args in
+    let q = c .before .before .before .before .before .before .before .before .before .before .pre in
+    let l = c .before .before .before .before .before .before .before .before .loop in
     let h : l .done < a .n = search needs in
     copying-turn (storeOf (a .sheet .now)) (a .pool .now) (a .source) (a .from) (a .object) (a .offset) (a .n) (q .1) (l .done) (storeOf (a .sheet .now)) (l .pool) (l .inv) h (q .2) (q .3) _
-    (c .before .before .before .before .before .in-page .ensures) _ _ (c .before .before .before .overcopy-page .ensures .0 (c .if1 .taken))
+    (c .before .before .before .before .before .before .in-page .ensures) _ _ (c .before .before .before .before .overcopy-page .ensures .0 (c .before .if1 .taken))
 
 same-length : tie.Need-same-length Inv-loop μ-loop
 same-length c = search needs
@@ -77,10 +77,10 @@ overcopy-pages-spec =
     Inv-loop
     μ-loop
     loop-holds
+    add-x
     add-at
     sub-in-page
     in-page-requires
-    add-overcopy-page
     overcopy-page-requires
     add-done
     loop-less

@@ -20,21 +20,21 @@ from-offset-requires c κs = search needs
 line-of-requires : tie.Need-line-of-requires
 line-of-requires c κs = search needs
 
-private-frame-requires : tie.Need-private-frame-requires
-private-frame-requires c κs = search needs
+private-near-requires : tie.Need-private-near-requires
+private-near-requires c κs = search needs
 
-enum-known-f : tie.Need-enum-known-f
-enum-known-f c = search needs
+enum-known-frame : tie.Need-enum-known-frame
+enum-known-frame c = search needs
 
 mul-at : tie.Need-mul-at
 mul-at c =
     let a = c .before .before .before .before .before .before .before .before .args in
     let q = c .before .before .before .before .before .before .before .before .pre in
-    let f : ℕ = c .before .f .given .0 .0 in
+    let f : ℕ = c .before .frame .given .0 .0 in
     let e : c .before .before .before .before .before .from-offset .result .0 ≡ a .offset / 4096 = c .before .before .before .before .before .from-offset .ensures in
     let g : c .before .before .before .before .line-of .result ≡ line (a .object) (c .before .before .before .before .before .from-offset .result .0) = c .before .before .before .before .line-of .ensures in
     let h : privateIn (storeOf (a .sheet .now)) (located (storeOf (a .sheet .now)) (line (a .object) (c .before .before .before .before .before .from-offset .result .0))) ≡ At f =
-    sym (c .before .before .before .private-frame .ensures ∙ ap (λ (z : ℕ). privateIn (storeOf (a .sheet .now)) (located (storeOf (a .sheet .now)) z)) g) ∙ c .before .f .given .1 in
+    sym (c .before .before .before .private-near .ensures ∙ ap (λ (z : ℕ). privateIn (storeOf (a .sheet .now)) (located (storeOf (a .sheet .now)) z)) g) ∙ c .before .frame .given .1 in
     let P : Private (storeOf (a .sheet .now)) (a .pool .now) (a .object) (c .before .before .before .before .before .from-offset .result .0) f = private-held (storeOf (a .sheet .now)) (a .pool .now) (q .1) (a .object) (c .before .before .before .before .before .from-offset .result .0) f h in
     omega (arith, P .present .has .below, q .1 .few-frames)
 
@@ -45,11 +45,11 @@ add-at : tie.Need-add-at
 add-at c =
     let a = c .before .before .before .before .before .before .before .before .before .args in
     let q = c .before .before .before .before .before .before .before .before .before .pre in
-    let f : ℕ = c .before .before .f .given .0 .0 in
+    let f : ℕ = c .before .before .frame .given .0 .0 in
     let e : c .before .before .before .before .before .before .from-offset .result .0 ≡ a .offset / 4096 = c .before .before .before .before .before .before .from-offset .ensures in
     let g : c .before .before .before .before .before .line-of .result ≡ line (a .object) (c .before .before .before .before .before .before .from-offset .result .0) = c .before .before .before .before .before .line-of .ensures in
     let h : privateIn (storeOf (a .sheet .now)) (located (storeOf (a .sheet .now)) (line (a .object) (c .before .before .before .before .before .before .from-offset .result .0))) ≡ At f =
-    sym (c .before .before .before .before .private-frame .ensures ∙ ap (λ (z : ℕ). privateIn (storeOf (a .sheet .now)) (located (storeOf (a .sheet .now)) z)) g) ∙ c .before .before .f .given .1 in
+    sym (c .before .before .before .before .private-near .ensures ∙ ap (λ (z : ℕ). privateIn (storeOf (a .sheet .now)) (located (storeOf (a .sheet .now)) z)) g) ∙ c .before .before .frame .given .1 in
     let P : Private (storeOf (a .sheet .now)) (a .pool .now) (a .object) (c .before .before .before .before .before .before .from-offset .result .0) f = private-held (storeOf (a .sheet .now)) (a .pool .now) (q .1) (a .object) (c .before .before .before .before .before .before .from-offset .result .0) f h in
     omega (arith, P .present .has .below, q .1 .few-frames, c .place .ensures)
 
@@ -57,11 +57,11 @@ copy-in-requires : tie.Need-copy-in-requires
 copy-in-requires c κs =
     let a = c .before .before .before .before .before .before .before .before .before .before .args in
     let q = c .before .before .before .before .before .before .before .before .before .before .pre in
-    let f : ℕ = c .before .before .before .f .given .0 .0 in
+    let f : ℕ = c .before .before .before .frame .given .0 .0 in
     let e : c .before .before .before .before .before .before .before .from-offset .result .0 ≡ a .offset / 4096 = c .before .before .before .before .before .before .before .from-offset .ensures in
     let g : c .before .before .before .before .before .before .line-of .result ≡ line (a .object) (c .before .before .before .before .before .before .before .from-offset .result .0) = c .before .before .before .before .before .before .line-of .ensures in
     let h : privateIn (storeOf (a .sheet .now)) (located (storeOf (a .sheet .now)) (line (a .object) (c .before .before .before .before .before .before .before .from-offset .result .0))) ≡ At f =
-    sym (c .before .before .before .before .before .private-frame .ensures ∙ ap (λ (z : ℕ). privateIn (storeOf (a .sheet .now)) (located (storeOf (a .sheet .now)) z)) g) ∙ c .before .before .before .f .given .1 in
+    sym (c .before .before .before .before .before .private-near .ensures ∙ ap (λ (z : ℕ). privateIn (storeOf (a .sheet .now)) (located (storeOf (a .sheet .now)) z)) g) ∙ c .before .before .before .frame .given .1 in
     let P : Private (storeOf (a .sheet .now)) (a .pool .now) (a .object) (c .before .before .before .before .before .before .before .from-offset .result .0) f = private-held (storeOf (a .sheet .now)) (a .pool .now) (q .1) (a .object) (c .before .before .before .before .before .before .before .from-offset .result .0) f h in
     (omega (arith, P .present .has .below, q .1 .pool, c .before .place .ensures, q .3), q .4)
 
@@ -75,11 +75,11 @@ returns : tie.Need-returns
 returns c =
     let a = c .before .before .before .before .before .before .before .before .before .before .before .before .before .args in
     let q = c .before .before .before .before .before .before .before .before .before .before .before .before .before .pre in
-    let f : ℕ = c .before .before .before .before .before .before .f .given .0 .0 in
+    let f : ℕ = c .before .before .before .before .before .before .frame .given .0 .0 in
     let e : c .before .before .before .before .before .before .before .before .before .before .from-offset .result .0 ≡ a .offset / 4096 = c .before .before .before .before .before .before .before .before .before .before .from-offset .ensures in
     let g : c .before .before .before .before .before .before .before .before .before .line-of .result ≡ line (a .object) (c .before .before .before .before .before .before .before .before .before .before .from-offset .result .0) = c .before .before .before .before .before .before .before .before .before .line-of .ensures in
     let h : privateIn (storeOf (a .sheet .now)) (located (storeOf (a .sheet .now)) (line (a .object) (c .before .before .before .before .before .before .before .before .before .before .from-offset .result .0))) ≡ At f =
-    sym (c .before .before .before .before .before .before .before .before .private-frame .ensures ∙ ap (λ (z : ℕ). privateIn (storeOf (a .sheet .now)) (located (storeOf (a .sheet .now)) z)) g) ∙ c .before .before .before .before .before .before .f .given .1 in
+    sym (c .before .before .before .before .before .before .before .before .private-near .ensures ∙ ap (λ (z : ℕ). privateIn (storeOf (a .sheet .now)) (located (storeOf (a .sheet .now)) z)) g) ∙ c .before .before .before .before .before .before .frame .given .1 in
     let P : Private (storeOf (a .sheet .now)) (a .pool .now) (a .object) (c .before .before .before .before .before .before .before .before .before .before .from-offset .result .0) f = private-held (storeOf (a .sheet .now)) (a .pool .now) (q .1) (a .object) (c .before .before .before .before .before .before .before .before .before .before .from-offset .result .0) f h in
     let S = stay-stepped (storeOf (a .sheet .now)) (a .pool .now) (q .1) (a .object) (c .before .before .before .before .before .before .before .before .before .before .from-offset .result .0) (omega (arith, e, q .2)) f (P .present) (P .alone) in (
       λ _. write-wrote (storeOf (a .sheet .now)) (a .pool .now) (q .1) (a .object) (a .offset) (q .2) _ _ e (c .before .before .before .before .place .ensures) (storeOf (a .sheet .now)) (a .pool .now) f S
@@ -96,8 +96,8 @@ overwrite-page-spec =
     (tie.spec
     from-offset-requires
     line-of-requires
-    private-frame-requires
-    enum-known-f
+    private-near-requires
+    enum-known-frame
     mul-at
     place-requires
     add-at

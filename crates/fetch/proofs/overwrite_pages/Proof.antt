@@ -11,10 +11,10 @@ use Rattle.fetch.proofs.overwrite_pages.Statement.{statement}
 use Rattle.fetch.proofs.overwrite_pages.Tie as tie
 
 abbrev Inv-loop : tie.InvT-loop
-Inv-loop sheet holders links pool₀ object offset src n done₀ pool done = Going (storeOf sheet) pool₀ object offset src done (storeOf sheet) pool
+Inv-loop sheet holders links pool₀ object offset src n slot₀ done₀ pool slot done = Going (storeOf sheet) pool₀ object offset src done (storeOf sheet) pool
 
 abbrev μ-loop : tie.MeasureT-loop
-μ-loop sheet holders links pool₀ object offset src n done₀ pool done = n - done
+μ-loop sheet holders links pool₀ object offset src n slot₀ done₀ pool slot done = n - done
 
 loop-holds : tie.Need-loop-holds Inv-loop μ-loop
 loop-holds c =

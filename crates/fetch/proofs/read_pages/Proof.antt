@@ -14,10 +14,10 @@ use Rattle.fetch.proofs.read_pages.Statement.{statement}
 use Rattle.fetch.proofs.read_pages.Tie as tie
 
 abbrev Inv-loop : tie.InvT-loop
-Inv-loop sheet links pool object offset buf₀ n done₀ buf done = (done ≤ n) × (length buf ≡ n) × Begun object offset n (entry (bookOf (storeOf sheet) pool)) buf done
+Inv-loop sheet links pool object offset buf₀ n slot₀ done₀ buf slot done = (done ≤ n) × (length buf ≡ n) × Begun object offset n (entry (bookOf (storeOf sheet) pool)) buf done
 
 abbrev μ-loop : tie.MeasureT-loop
-μ-loop sheet links pool object offset buf₀ n done₀ buf done = n - done
+μ-loop sheet links pool object offset buf₀ n slot₀ done₀ buf slot done = n - done
 
 loop-holds : tie.Need-loop-holds Inv-loop μ-loop
 loop-holds c =
