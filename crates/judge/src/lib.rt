@@ -19,7 +19,8 @@ ghost use Rattle.table.specs.Table.{rangesOf, Table};
 ghost use Rattle.store.specs.Abs.{used, bookOf};
 ghost use Rattle.store.specs.Sound.{Sound};
 ghost use Rattle.refuse.specs.Refuse.{opening, pairing, refusal};
-ghost use Rattle.refuse.specs.Needs.{framesAt, Upto};
+ghost use Rattle.look.specs.Found.{stateIs};
+ghost use Rattle.refuse.specs.Needs.{Upto};
 ghost use Rattle.refuse.specs.Needs as needs;
 ghost use Rattle.refuse.specs.Spans.{spanIs};
 ghost use Rattle.sheet.specs.Sheet.{storeOf};
@@ -192,18 +193,12 @@ pub fn read(sheet: &[u64; 2579], pool: usize, object: u32, offset: usize, n: usi
     0
 }
 
-// The frames that page g of the line wants: one if it is shared, `absent` if it is absent.
-fn wants(
-    sheet: &[u64; 2579],
-    holders: &[u16; 2048],
-    links: &[u16; 2048],
-    g: usize,
-    absent: usize,
-) -> usize
-    requires { ⌜ (Charted (now sheet) (now links)) × (g < 1000000000000000000) × (absent ≤ 1) × (Held (now sheet) (now holders)) ⌝ }
-    ensures { λ r. ⌜ (r ≡ framesAt absent (storeOf (now (sheet .entry))) g) × (r ≤ 1) ⌝ }
+// The frames that a page in this state wants: one if it is shared, `absent` if it is absent.
+fn wants(state: State, absent: usize) -> usize
+    requires { ⌜ absent ≤ 1 ⌝ }
+    ensures { λ r. ⌜ (r ≡ needs.frames absent (stateIs state)) × (r ≤ 1) ⌝ }
 {
-    match seek::state_of(sheet, holders, links, g) {
+    match state {
         State::Absent => absent,
         State::Private => 0,
         State::Shared => 1,
@@ -223,6 +218,7 @@ fn wanted(
     requires { ⌜ (Charted (now sheet) (now links)) × (page .0 + n ≤ 262144) × (Held (now sheet) (now holders)) ⌝ }
     ensures { λ r. ⌜ ((x : List ℕ) → Upto limit (wanted n object (page .0) (entry (bookOf (storeOf (now (sheet .entry))) x))) r) ⌝ }
 {
+    let mut slot: usize = 0;
     let mut w: usize = 0;
     let mut i: usize = 0;
     while i < n {
@@ -231,7 +227,10 @@ fn wanted(
         }
         let p = page.offset(i);
         let g = table::line_of(object, p);
-        w += wants(sheet, holders, links, g, 1);
+        let near = seek::state_near(sheet, holders, links, g, slot);
+        let state = near.state;
+        w += wants(state, 1);
+        slot = near.slot;
         i += 1;
     }
     w
@@ -319,7 +318,8 @@ fn partly(
         return 1;
     }
     let g = table::line_of(object, page);
-    wants(sheet, holders, links, g, absent)
+    let state = seek::state_of(sheet, holders, links, g);
+    wants(state, absent)
 }
 
 // The partly touched pages that count, of the n bytes from `offset` on.

@@ -7,7 +7,9 @@ use Rattle.ranges.specs.Range.{line}
 use Rattle.book.specs.Need.{wanted}
 use Rattle.book.specs.Book.{entry}
 use Rattle.store.specs.Abs.{bookOf}
-use Rattle.refuse.specs.Needs.{framesAt, wanted-next, wants-seen, upto-above, upto-all}
+use Rattle.look.specs.declared.State.{State}
+use Rattle.look.specs.Found.{stateIs}
+use Rattle.refuse.specs.Needs.{frames, framesAt, wanted-next, wants-seen, upto-above, upto-all}
 use Rattle.sheet.specs.Sheet.{storeOf}
 use Rattle.sheet.specs.Edits.{storeOf-sized}
 use borrow.Author.Needs.{needs}
@@ -16,11 +18,11 @@ use Rattle.judge.proofs.wanted.Statement.{statement}
 use Rattle.judge.proofs.wanted.Tie as tie
 
 abbrev Inv-loop : tie.InvT-loop
-Inv-loop sheet holders links object page n limit w₀ i₀ w i =
+Inv-loop sheet holders links object page n limit slot₀ w₀ i₀ slot w i =
     (i ≤ n) × (w ≤ i) × ((x : List ℕ) → w + wanted (n - i) object (page .0 + i) (entry (bookOf (storeOf sheet) x)) ≡ wanted n object (page .0) (entry (bookOf (storeOf sheet) x)))
 
 abbrev μ-loop : tie.MeasureT-loop
-μ-loop sheet holders links object page n limit w₀ i₀ w i = n - i
+μ-loop sheet holders links object page n limit slot₀ w₀ i₀ slot w i = n - i
 
 loop-holds : tie.Need-loop-holds Inv-loop μ-loop
 loop-holds c =
@@ -38,6 +40,9 @@ offset-requires c κs = search needs
 line-of-requires : tie.Need-line-of-requires Inv-loop μ-loop
 line-of-requires c κs = search needs
 
+state-near-requires : tie.Need-state-near-requires Inv-loop μ-loop
+state-near-requires c κs = search needs
+
 wants-requires : tie.Need-wants-requires Inv-loop μ-loop
 wants-requires c κs = search needs
 
@@ -52,13 +57,13 @@ loop-less c = search needs
 
 loop-again : tie.Need-loop-again Inv-loop μ-loop
 loop-again c =
-    let a = c .before .before .before .before .before .before .args in
-    let q = c .before .before .before .before .before .before .pre .0 in
-    let l = c .before .before .before .before .before .loop in
+    let a = c .before .before .before .before .before .before .before .args in
+    let q = c .before .before .before .before .before .before .before .pre .0 in
+    let l = c .before .before .before .before .before .before .loop in
     let s = storeOf (a .sheet .now) in
     let v = storeOf-sized (a .sheet .now) .places in
-    let g : c .before .line-of .result ≡ line (a .object) (a .page .0 + l .i) = c .before .line-of .ensures ∙ ap (line (a .object)) (c .before .before .offset .ensures) in
-    let r : c .wants .result ≡ framesAt 1 s (line (a .object) (a .page .0 + l .i)) = rw (← g) (c .wants .ensures .0) in (
+    let g : c .before .before .line-of .result ≡ line (a .object) (a .page .0 + l .i) = c .before .before .line-of .ensures ∙ ap (line (a .object)) (c .before .before .before .offset .ensures) in
+    let r : c .wants .result ≡ framesAt 1 s (line (a .object) (a .page .0 + l .i)) = rw (← g) (c .wants .ensures .0 ∙ ap (λ (z : State). frames 1 (stateIs z)) (c .before .state-near .ensures)) in (
       search needs,
       search needs,
       λ x. let m = r ∙ wants-seen s (q .table) (omega (arith, q .few)) (a .object) (a .page .0 + l .i) x in
@@ -83,6 +88,7 @@ wanted-spec =
     returns
     offset-requires
     line-of-requires
+    state-near-requires
     wants-requires
     add-w
     add-i
