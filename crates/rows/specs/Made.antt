@@ -6,13 +6,14 @@ use native.Mathlib.Omega.{arith}
 use lib.ListN.{length, length-append}
 use Rattle.lists.specs.Test.{by-lt}
 use Rattle.ranges.specs.Range.{Ranged, carve, from, upto, front, back}
-use Rattle.ranges.specs.Search.{startsBefore, endsBy}
+use Rattle.ranges.specs.Search.{startsBefore, endsBy, ends-few}
 use Rattle.ranges.specs.Cut.{front-some, front-none, back-some, back-none}
 use Rattle.table.specs.declared.PageRange.{PageRange}
 use Rattle.table.specs.declared.BackingPages.{BackingPages}
 use Rattle.table.specs.declared.Piece.{Piece}
 use Rattle.table.specs.declared.Piece.the-variants.{Empty, Part}
 use Rattle.table.specs.Table.{Table, Small, ranged, rangedOf, zeroRange, partsOf}
+use Rattle.table.specs.Searching.{used-length}
 use Rattle.edit.specs.declared.RangeTable.{RangeTable}
 use Rattle.edit.specs.Edit.{spliced, putTable, cutTable}
 use Rattle.edit.specs.Edits.{cut-met, cut-none, cut-room, met-order, put-met, put-none}
@@ -117,6 +118,17 @@ one-row (Part r) = omega arith
 abbrev pub splicedIn : Store → ℕ → ℕ → List PageRange → Store
 splicedIn s p k new = withTable (record { ranges = spliced (s .ranges) (s .count) p k new; count = s .count + length new - k }) s
 
+-- one row put in as row p
+pub inserted : (s : Store) (p : ℕ) (n : PageRange) (t u : Store) → length (s .ranges) ≡ 512 → p ≤ s .count → s .count + 1 ≤ 512 → Shifted s p (p + 1) t
+    → u ≡ withRange p n t → u ≡ splicedIn s p (p - p) (n ∷ [])
+inserted s p n t u full inside room S e =
+    let f : length (t .ranges) ≡ 512 = S .rows .full in
+    let c : t .count ≡ s .count + 1 - (p - p) = S .count ∙ omega arith in
+    e
+    ∙ ap (λ l. withRanges l t) (laid-one (t .ranges) p n (omega arith) ∙ spliced-laid (s .ranges) (t .ranges) (n ∷ []) (s .count) p p full (omega arith) (omega arith) inside (omega arith) (S .rows))
+    ∙ ap (λ (o : Store). withRanges (spliced (s .ranges) (s .count) p (p - p) (n ∷ [])) o) (S .same)
+    ∙ ap (λ k. withTable (record { ranges = spliced (s .ranges) (s .count) p (p - p) (n ∷ []); count = k }) s) c
+
 -- ---- the rows that the pages from a up to e meet: those from p up to q
 module _ (w : List ℕ) (T : Table (storeOf w .ranges) (storeOf w .count)) (a e p q : ℕ) (h : a < e) (ep : p ≡ endsBy a (rangedOf (used (storeOf w))))
     (eq : q ≡ startsBefore e (rangedOf (used (storeOf w)))) where
@@ -137,6 +149,10 @@ module _ (w : List ℕ) (T : Table (storeOf w .ranges) (storeOf w .count)) (a e 
   far-fit l b k el eb = back-fit e l b (rw el (start-small w (q - 1) (omega (arith, met-within)))) (far-small l k el) eb
 
 module _ (s : Store) (T : Table (s .ranges) (s .count)) where
+  -- the first rows that end by a page are rows of the table
+  pub ends-within : (a p : ℕ) → p ≡ endsBy a (rangedOf (used s)) → p ≤ s .count
+  ends-within a p e = omega (arith, ends-few (ranged zeroRange) a (rangedOf (used s)), used-length (s .ranges) (s .count) T)
+
   -- ---- a range put over its span
   module _ (n : PageRange) (S : Small n) (h : 0 < n .length) (room : s .count + 2 ≤ 512) (a e p q : ℕ) (ea : a ≡ from (ranged n)) (ee : e ≡ upto (ranged n))
       (ep : p ≡ endsBy a (rangedOf (used s))) (eq : q ≡ startsBefore e (rangedOf (used s))) where

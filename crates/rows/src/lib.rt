@@ -15,10 +15,10 @@ ghost use mathlib.Core.Path.{_≡_};
 ghost use mathlib.Core.List.{[]};
 ghost use Prim.Native.Nat.{_+_, _-_, _≤_, _<_};
 ghost use lib.ListN.{length};
-ghost use Rattle.ranges.specs.Range.{carve};
+ghost use Rattle.ranges.specs.Range.{carve, from, upto};
 ghost use Rattle.ranges.specs.Search.{startsBefore, endsBy};
 ghost use Rattle.ranges.specs.Table.{holders, fresh, named};
-ghost use Rattle.table.specs.Table.{rangedOf, rangesOf, Small, Table};
+ghost use Rattle.table.specs.Table.{ranged, rangedOf, rangesOf, Small, Table};
 ghost use Rattle.table.specs.Searching.{BegunIs};
 ghost use Rattle.store.specs.Abs.{used};
 ghost use Rattle.sheet.specs.Sheet.{rangeAt, storeOf, withRange};
@@ -260,6 +260,16 @@ fn replace(sheet: &mut [u64; 2579], p: usize, q: usize, before: Piece, middle: P
     lay(sheet, p + x + y, after);
 }
 
+// A range put in as row p, where no range meets its pages and p is its place: the rows from p on move up by one.
+pub fn insert_range(sheet: &mut [u64; 2579], p: usize, n: PageRange)
+    requires { ⌜ (length (now sheet) ≡ 2579) × (Table (storeOf (now sheet) .ranges) (storeOf (now sheet) .count)) × (Blank (storeOf (now sheet))) ⌝ }
+    requires { ⌜ (Small n) × (0 < n .length) × (storeOf (now sheet) .count + 2 ≤ 512) × (p ≡ endsBy (from (ranged n)) (rangedOf (used (storeOf (now sheet))))) × (startsBefore (upto (ranged n)) (rangedOf (used (storeOf (now sheet)))) ≤ p) ⌝ }
+    ensures { λ _. ⌜ (PutIs n (storeOf (now (sheet .entry))) (storeOf (now (sheet .exit)))) × (length (now (sheet .exit)) ≡ 2579) ⌝ }
+{
+    shift(sheet, p, p + 1);
+    set_range(sheet, p, n);
+}
+
 // A range put over its span, whatever was there.
 pub fn put_range(sheet: &mut [u64; 2579], n: PageRange)
     requires { ⌜ (length (now sheet) ≡ 2579) × (Table (storeOf (now sheet) .ranges) (storeOf (now sheet) .count)) × (Blank (storeOf (now sheet))) ⌝ }
@@ -278,7 +288,7 @@ pub fn put_range(sheet: &mut [u64; 2579], n: PageRange)
         replace(sheet, p, q, before, Piece::Part(n), after);
         return;
     }
-    replace(sheet, p, p, Piece::Empty, Piece::Part(n), Piece::Empty);
+    insert_range(sheet, p, n);
 }
 
 // The pages from a up to e of the line cut out.

@@ -1,11 +1,15 @@
 -- `rows::put_range` meets its contract. p is the first row met, q the one behind the last.
+use mathlib.Core.Path.{ap, _∙_}
 use native.Mathlib.Omega.{arith}
 use borrow.Author.Needs.{needs}
 use Prim.Native.Nat.{_<_}
+use Rattle.ranges.specs.Search.{startsBefore, endsBy}
+use Rattle.table.specs.Table.{rangedOf}
+use Rattle.store.specs.Abs.{used}
 use Rattle.sheet.specs.Sheet.{storeOf}
 use Rattle.rows.specs.Edit.{rowsOf}
 use Rattle.table.specs.declared.Piece.the-variants.{Part}
-use Rattle.rows.specs.Made.{far-fit, far-small, made-length, met-within, near-fit, near-small, one-row, put-between, put-over}
+use Rattle.rows.specs.Made.{far-fit, far-small, made-length, met-within, near-fit, near-small, one-row, put-over}
 use Rattle.rows.proofs.put_range.Statement.{statement}
 use Rattle.rows.proofs.put_range.Tie as tie
 
@@ -125,39 +129,19 @@ returns c =
     let f = c .replace .ensures in
     (put-over (storeOf w) T (a .n) (P .1 .0) len (P .1 .2) _ _ _ _ ea ee ep eq _ _ (c .before .before .before .front-of .result) (c .before .before .back-of .result) _ t (c .before .before .before .before .before .before .range .ensures) (c .before .before .before .before .range2 .ensures) (c .before .before .before .front-of .ensures) (c .before .before .back-of .ensures) (f .0), f .1)
 
-replace-requires-2 : tie.Need-replace-requires-2
-replace-requires-2 c κs =
+insert-range-requires : tie.Need-insert-range-requires
+insert-range-requires c κs =
     let a = c .before .before .before .before .before .before .before .before .args in
-    let w = a .sheet .now in
     let P = c .before .before .before .before .before .before .before .before .pre in
-    let T = P .0 .1 in
     let ea = c .before .before .before .before .before .before .before .first .ensures in
     let ee = c .before .before .before .before .before .before .end .ensures in
     let ep = c .before .before .before .before .ends-by .ensures in
     let eq = c .before .before .starts-before .ensures in
-    let len = P .1 .1 in
-    let h : c .before .before .before .before .before .before .before .first .result < c .before .before .before .before .before .before .end .result = omega arith in
-    let o = met-within w T _ _ _ _ h ep eq in
     let t = c .before .if1 .left in
-    let s = P .1 .0 .ends in
-    ((P .0 .0, o .2, omega arith, omega arith, omega arith), (P .0 .2, tt, omega arith, tt))
+    (P .0, (P .1 .0, P .1 .1, P .1 .2, ep ∙ ap (λ k. endsBy k (rangedOf (used (storeOf (a .sheet .now))))) ea, omega (arith, ap (λ k. startsBefore k (rangedOf (used (storeOf (a .sheet .now))))) ee)))
 
 returns-2 : tie.Need-returns-2
-returns-2 c =
-    let a = c .before .before .before .before .before .before .before .before .before .args in
-    let w = a .sheet .now in
-    let P = c .before .before .before .before .before .before .before .before .before .pre in
-    let T = P .0 .1 in
-    let ea = c .before .before .before .before .before .before .before .before .first .ensures in
-    let ee = c .before .before .before .before .before .before .before .end .ensures in
-    let ep = c .before .before .before .before .before .ends-by .ensures in
-    let eq = c .before .before .before .starts-before .ensures in
-    let len = P .1 .1 in
-    let h : c .before .before .before .before .before .before .before .before .first .result < c .before .before .before .before .before .before .before .end .result = omega arith in
-    let o = met-within w T _ _ _ _ h ep eq in
-    let t = c .before .before .if1 .left in
-    let f = c .replace2 .ensures in
-    (put-between (storeOf w) T (a .n) (P .1 .0) len (P .1 .2) _ _ _ _ ea ee ep eq _ t (f .0), f .1)
+returns-2 c = c .insert-range .ensures
 
 pub put-range-spec : {M : Type 1} → statement M
 put-range-spec =
@@ -174,5 +158,5 @@ put-range-spec =
     back-of-requires
     replace-requires
     returns
-    replace-requires-2
+    insert-range-requires
     returns-2)
