@@ -13,3 +13,4 @@ pub mod Reback
 pub mod Around
 pub mod Parts
 pub mod Met
+pub mod Gap

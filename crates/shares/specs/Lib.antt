@@ -5,3 +5,4 @@ pub mod Sharing
 pub mod Tidied
 pub mod Together
 pub mod Uncovered
+pub mod Filling

@@ -96,6 +96,10 @@ module _ (s : Store) (src p o q n a : ℕ) (ea : a ≡ line src p) (I : Inside s
   pub sharing-first : (i : ℕ) → i ≡ endsBy a (rangedOf (used s)) → Sharing s a (a + n) o q i (tidied s)
   sharing-first i h = skipped-first s a (a + n) o q I i (tidied s) h (rw ea (tidied-start s src p o q n I room))
 
+  -- the same in the store as it is
+  pub sharing-begun : (i : ℕ) → i ≡ endsBy a (rangedOf (used s)) → Sharing s a (a + n) o q i s
+  sharing-begun i h = skipped-first s a (a + n) o q I i s h (rw ea (sharing-start s src p o q n room))
+
   module _ (i l : ℕ) (hl : l ≡ startsBefore (a + n) (rangedOf (used s))) (m : l ≤ i) where
     -- the last one has had it
     pub sharing-last : (t : Store) → i ≤ s .count → Sharing s a (a + n) o q i t → (x : List ℕ) → Inside s x → Reranged s x (sharing src p o q n (workOf s x)) (line o q) t
@@ -105,4 +109,4 @@ module _ (s : Store) (src p o q n a : ℕ) (ea : a ≡ line src p) (I : Inside s
     pub sharing-none : i ≡ endsBy a (rangedOf (used s)) → (x : List ℕ) → Inside s x → Reranged s x (sharing src p o q n (workOf s x)) (line o q) s
     sharing-none h =
         sharing-last s (omega (arith, ends-few (ranged zeroRange) a (rangedOf (used s)), used-length (s .ranges) (s .count) (inside-table s (zeros s) I)))
-        (skipped-first s a (a + n) o q I i s h (rw ea (sharing-start s src p o q n room)))
+        (sharing-begun i h)

@@ -7,8 +7,10 @@ ghost use mathlib.Core.List.{List};
 ghost use Prim.Native.Nat.{ℕ, _+_, _-_, _*_, _≤_, _<_, min};
 ghost use lib.ListN.{length};
 ghost use Rattle.ranges.specs.Range.{line};
+ghost use Rattle.ranges.specs.Search.{startsBefore, endsBy};
 ghost use Rattle.book.specs.Pages as pages;
-ghost use Rattle.table.specs.Table.{Small};
+ghost use Rattle.table.specs.Table.{Small, rangedOf};
+ghost use Rattle.store.specs.Abs.{used};
 ghost use Rattle.store.specs.Spare.{workOf};
 ghost use Rattle.sheet.specs.Sheet.{storeOf};
 ghost use Rattle.pages.specs.Inside.{Inside};
@@ -16,6 +18,7 @@ ghost use Rattle.pages.specs.Any.{zeros};
 ghost use Rattle.shares.specs.Reranged.{Reranged};
 ghost use Rattle.shares.specs.Together.{Sharable, Together};
 ghost use Rattle.shares.specs.Tidied.{tidied};
+ghost use Rattle.shares.specs.Filling.{Free, Inserted};
 
 // One source range met: its part is put into the table, and nothing is trimmed. Nothing where they do not meet.
 fn share_part(
@@ -35,9 +38,69 @@ fn share_part(
     }
 }
 
-// "For each source range met", n whole pages from page `from` of `source` are shared with `object` from page `to` on; uncovered ones are skipped. The
-// ranges are those at the start: what is put in lies in `object`, and the source's ranges stay. Places are trimmed once, at the end.
-pub fn copy_range_to_object_tree(
+// The slot in which row i of the table at the start stands, once rows were put in from slot `at` on and `p` is the place of the next.
+fn slot_now(i: usize, at: usize, p: usize) -> usize
+    requires { ⌜ (i ≤ 512) × (at ≤ p) × (p ≤ 512) ⌝ }
+    ensures { λ k. ⌜ (i < at → k ≡ i) × (at ≤ i → k ≡ i + (p - at)) ⌝ }
+{
+    if i < at {
+        return i;
+    }
+    i + (p - at)
+}
+
+// One source range met, where no range has the pages of the destination from its part on: the part is put in as row p. The answer is the place of the next part.
+fn insert_part(
+    sheet: &mut [u64; 2579],
+    p: usize,
+    r: PageRange,
+    a: usize,
+    e: usize,
+    object: u32,
+    to: PageNumber,
+) -> usize
+    requires { ⌜ (length (now sheet) ≡ 2579) × (Inside (storeOf (now sheet)) (zeros (storeOf (now sheet)))) × (Small r) × (to .0 + (e - a) ≤ 262144) × (Sharable (storeOf (now sheet)) a e r) × (Free (storeOf (now sheet)) a e object (to .0) r p) ⌝ }
+    ensures { λ k. ⌜ (Inserted (storeOf (now (sheet .entry))) a e object (to .0) r p (storeOf (now (sheet .exit))) k) × (length (now (sheet .exit)) ≡ 2579) ⌝ }
+{
+    match shares::moved_part(r, a, e, object, to) {
+        Piece::Empty => p,
+        Piece::Part(n) => {
+            rows::insert_range(sheet, p, n);
+            p + 1
+        }
+    }
+}
+
+// "For each source range met", where no range has a page of the destination, which lies behind the first `at` ranges: the parts become the rows from `at` on.
+// No window is lost, so nothing is trimmed. The source's rows are read where they stand by then.
+fn share_between(
+    sheet: &mut [u64; 2579],
+    source: u32,
+    from: PageNumber,
+    object: u32,
+    to: PageNumber,
+    n: usize,
+    at: usize,
+)
+    requires { ⌜ (length (now sheet) ≡ 2579) × (Inside (storeOf (now sheet)) (zeros (storeOf (now sheet)))) × (source ≡ object → ⊥) × (from .0 + n ≤ 262144) × (to .0 + n ≤ 262144) × (storeOf (now sheet) .count + 2 * pages.met source (from .0) n (workOf (storeOf (now sheet)) (zeros (storeOf (now sheet)))) ≤ 512) × (at ≡ endsBy (line object (to .0)) (rangedOf (used (storeOf (now sheet))))) × (startsBefore (line object (to .0) + n) (rangedOf (used (storeOf (now sheet)))) ≤ at) ⌝ }
+    ensures { λ _. ⌜ ((x : List ℕ) → Inside (storeOf (now (sheet .entry))) x → Reranged (storeOf (now (sheet .entry))) x (pages.sharing source (from .0) object (to .0) n (workOf (storeOf (now (sheet .entry))) x)) (line object (to .0)) (storeOf (now (sheet .exit)))) × (length (now (sheet .exit)) ≡ 2579) ⌝ }
+{
+    let a = table::line_of(source, from);
+    let e = a + n;
+    let mut j = rows::ends_by(sheet, a);
+    let end = rows::starts_before(sheet, e);
+    let mut p = at;
+    while j < end {
+        let k = slot_now(j, at, p);
+        let r = sheet::range(sheet, k);
+        p = insert_part(sheet, p, r, a, e, object, to);
+        j += 1;
+    }
+}
+
+// "For each source range met", whatever ranges have pages of the destination. The ranges are those at the start: what is put in lies in `object`, and the
+// source's ranges stay. Places are trimmed once, at the end.
+fn share_over(
     sheet: &mut [u64; 2579],
     source: u32,
     from: PageNumber,
@@ -62,6 +125,29 @@ pub fn copy_range_to_object_tree(
         i += 1;
     }
     tidy::trim(sheet);
+}
+
+// "For each source range met", n whole pages from page `from` of `source` are shared with `object` from page `to` on; uncovered ones are skipped. Mostly
+// no range has a page of the destination.
+pub fn copy_range_to_object_tree(
+    sheet: &mut [u64; 2579],
+    source: u32,
+    from: PageNumber,
+    object: u32,
+    to: PageNumber,
+    n: usize,
+)
+    requires { ⌜ (length (now sheet) ≡ 2579) × (Inside (storeOf (now sheet)) (zeros (storeOf (now sheet)))) × (source ≡ object → ⊥) × (from .0 + n ≤ 262144) × (to .0 + n ≤ 262144) × (storeOf (now sheet) .count + 2 * pages.met source (from .0) n (workOf (storeOf (now sheet)) (zeros (storeOf (now sheet)))) ≤ 512) ⌝ }
+    ensures { λ _. ⌜ ((x : List ℕ) → Inside (storeOf (now (sheet .entry))) x → Reranged (storeOf (now (sheet .entry))) x (pages.sharing source (from .0) object (to .0) n (workOf (storeOf (now (sheet .entry))) x)) (line object (to .0)) (storeOf (now (sheet .exit)))) × (length (now (sheet .exit)) ≡ 2579) ⌝ }
+{
+    let g = table::line_of(object, to);
+    let at = rows::ends_by(sheet, g);
+    let stop = rows::starts_before(sheet, g + n);
+    if stop <= at {
+        share_between(sheet, source, from, object, to, n, at);
+        return;
+    }
+    share_over(sheet, source, from, object, to, n);
 }
 
 // "Zeroing leaves whole pages uncovered": n pages from `page` on.

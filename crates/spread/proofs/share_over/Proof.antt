@@ -1,4 +1,4 @@
--- `spread::copy_range_to_object_tree` meets its contract. The loop's invariant: the first `i` ranges of the table at the start are shared. The measure is the
+-- `spread::share_over` meets its contract. The loop's invariant: the first `i` ranges of the table at the start are shared. The measure is the
 -- number of ranges left that are met.
 use mathlib.Core.Path.{_≡_, refl, subst}
 use Prim.Native.Nat.{_+_, _-_, _≤_, _<_}
@@ -12,8 +12,8 @@ use Rattle.shares.specs.Together.{Together}
 use Rattle.spread.specs.Spread.{sharing-first, sharing-last, sharing-none, begun-few}
 use borrow.Author.Needs.{needs}
 use native.Mathlib.Omega.{arith}
-use Rattle.spread.proofs.copy_range_to_object_tree.Statement.{statement}
-use Rattle.spread.proofs.copy_range_to_object_tree.Tie as tie
+use Rattle.spread.proofs.share_over.Statement.{statement}
+use Rattle.spread.proofs.share_over.Tie as tie
 
 abbrev Inv-loop : tie.InvT-loop
 Inv-loop sheet₀ source object to n a e i₀ last base sheet i = (i ≤ last) × (length sheet ≡ 2579) × Sharing (storeOf sheet₀) a e object (to .0) i (tidied (storeOf sheet))
@@ -129,8 +129,8 @@ returns-2 c =
       c .trim .ensures .1,
     )
 
-pub copy-range-to-object-tree-spec : {M : Type 1} → statement M
-copy-range-to-object-tree-spec =
+pub share-over-spec : {M : Type 1} → statement M
+share-over-spec =
     tie.close
     (tie.spec
     Inv-loop
