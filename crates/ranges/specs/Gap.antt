@@ -10,7 +10,7 @@ use borrow.Author.Tests.{le-ltb}
 use Rattle.lists.specs.Test.{by-lt}
 use Rattle.ranges.specs.Range.{Ranged, from, upto, put, Rising}
 use Rattle.ranges.specs.Over.{put-keeps}
-use Rattle.ranges.specs.Search.{startsBefore, endsBy, starts-few, starts-in, starts-out, ends-few, ends-in, ends-is}
+use Rattle.ranges.specs.Search.{startsBefore, endsBy, starts-out, ends-few, ends-in}
 use Rattle.ranges.specs.Around.{put-around}
 
 module _ {B : Type 0} (d : Ranged B) where
@@ -78,18 +78,6 @@ module _ {B : Type 0} (d : Ranged B) where
             (List·Memᴰ·cases-cons m)
 
     module _ (s : Rising 0 rs) (n : Ranged B) (full : 0 < n .len) (low : a ≤ from n) (high : upto n ≤ e) where
-      -- the searches for a range's pages in it find its place
-      pub gap-ends : p ≡ endsBy (from n) rs
-      gap-ends =
-          ends-is d (from n) 0 p rs s (G .inside) (λ i l. omega (arith, G .before i l))
-          (λ l. omega (arith, G .after p (le-refl p) l))
-
-      pub gap-starts : startsBefore (upto n) rs ≤ p
-      gap-starts =
-          by-lt p (startsBefore (upto n) rs)
-          (λ l. absurd (omega (arith, starts-in d (upto n) p rs l, G .after p (le-refl p) (omega (arith, starts-few d (upto n) rs)))))
-          (λ l. l)
-
       -- A RANGE PUT INTO IT is one row more
       gap-with : put n rs ≡ with p n rs
       gap-with =
@@ -106,7 +94,10 @@ module _ {B : Type 0} (d : Ranged B) where
       pub gap-length : length (put n rs) ≡ length rs + 1
       gap-length = ap length gap-with ∙ with-length p n rs
 
-      -- the rows before it stay, and those behind it move up
+      -- the range stands there, the rows before it stay, and those behind it move up
+      pub gap-here : getD (put n rs) p d ≡ n
+      gap-here = ap (λ k. getD k p d) gap-with ∙ with-here p n rs (G .inside)
+
       pub gap-low : (i : ℕ) → i < p → getD (put n rs) i d ≡ getD rs i d
       gap-low i l = ap (λ k. getD k i d) gap-with ∙ with-low p n rs i l (G .inside)
 
@@ -125,7 +116,7 @@ module _ {B : Type 0} (d : Ranged B) where
             by-lt i p
             (λ k. rw (gap-low i k) (omega (arith, G .before i k)))
             (λ k. let z : i ≡ p = omega arith in
-            let h : getD (put n rs) i d ≡ n = ap (λ j. getD (put n rs) j d) z ∙ ap (λ k. getD k p d) gap-with ∙ with-here p n rs (G .inside) in rw h (omega arith));
+            let h : getD (put n rs) i d ≡ n = ap (λ j. getD (put n rs) j d) z ∙ gap-here in rw h (omega arith));
         after = λ i l m.
             let z : i ≡ suc (i - 1) = omega arith in
             let h : getD (put n rs) i d ≡ getD rs (i - 1) d = ap (λ j. getD (put n rs) j d) z ∙ gap-high (i - 1) (omega arith) in

@@ -108,7 +108,7 @@ module _ {B : Type 0} (d : Ranged B) where
       (λ l. let m : suc (endsBy a rs) ≤ suc i = rw (le-leb (upto r) a l) at h in ends-out a (upto r) i rs (s .2) (omega arith) (omega arith))
 
   -- a number with both properties is that one
-  pub ends-is : (a low n : ℕ) (rs : List (Ranged B)) → Rising low rs → n ≤ length rs → ((i : ℕ) → i < n → upto (getD rs i d) ≤ a)
+  ends-is : (a low n : ℕ) (rs : List (Ranged B)) → Rising low rs → n ≤ length rs → ((i : ℕ) → i < n → upto (getD rs i d) ≤ a)
       → (n < length rs → a < upto (getD rs n d)) → n ≡ endsBy a rs
   ends-is a low n rs s h b c =
       by-lt n (endsBy a rs)

@@ -206,7 +206,7 @@ fn clear(sheet: &mut [u64; 2579], at: usize, n: usize)
 }
 
 // The rows from `from` on moved to `to`; the slots that are then unused are zero.
-fn shift(sheet: &mut [u64; 2579], from: usize, to: usize)
+pub fn shift(sheet: &mut [u64; 2579], from: usize, to: usize)
     requires { ⌜ (length (now sheet) ≡ 2579) × (storeOf (now sheet) .count ≤ 512) × (from ≤ storeOf (now sheet) .count) × (storeOf (now sheet) .count + to ≤ 512 + from) ⌝ }
     requires { ⌜ Blank (storeOf (now sheet)) ⌝ }
     ensures { λ _. ⌜ (Shifted (storeOf (now (sheet .entry))) from to (storeOf (now (sheet .exit)))) × (length (now (sheet .exit)) ≡ 2579) ⌝ }

@@ -12,13 +12,14 @@ ghost use Rattle.book.specs.Pages as pages;
 ghost use Rattle.table.specs.Table.{Small, rangedOf};
 ghost use Rattle.store.specs.Abs.{used};
 ghost use Rattle.store.specs.Spare.{workOf};
-ghost use Rattle.sheet.specs.Sheet.{storeOf};
+ghost use Rattle.sheet.specs.Sheet.{storeOf, withRange};
 ghost use Rattle.pages.specs.Inside.{Inside};
 ghost use Rattle.pages.specs.Any.{zeros};
+ghost use Rattle.shares.specs.Moved.{begins, ends, movedRange};
 ghost use Rattle.shares.specs.Reranged.{Reranged};
 ghost use Rattle.shares.specs.Together.{Sharable, Together};
 ghost use Rattle.shares.specs.Tidied.{tidied};
-ghost use Rattle.shares.specs.Filling.{Free, Inserted};
+ghost use Rattle.spread.specs.Laid.{Opening, Ready};
 
 // One source range met: its part is put into the table, and nothing is trimmed. Nothing where they do not meet.
 fn share_part(
@@ -38,7 +39,7 @@ fn share_part(
     }
 }
 
-// The slot in which row i of the table at the start stands, once rows were put in from slot `at` on and `p` is the place of the next.
+// The slot in which row i of the table at the start stands once the rows from slot `at` on have moved up to `p`.
 fn slot_now(i: usize, at: usize, p: usize) -> usize
     requires { ⌜ (i ≤ 512) × (at ≤ p) × (p ≤ 512) ⌝ }
     ensures { λ k. ⌜ (i < at → k ≡ i) × (at ≤ i → k ≡ i + (p - at)) ⌝ }
@@ -49,30 +50,50 @@ fn slot_now(i: usize, at: usize, p: usize) -> usize
     i + (p - at)
 }
 
-// One source range met, where no range has the pages of the destination from its part on: the part is put in as row p. The answer is the place of the next part.
-fn insert_part(
+// The part of a source range that is met, written as row `slot`.
+fn lay_part(
     sheet: &mut [u64; 2579],
-    p: usize,
+    slot: usize,
     r: PageRange,
     a: usize,
     e: usize,
     object: u32,
     to: PageNumber,
-) -> usize
-    requires { ⌜ (length (now sheet) ≡ 2579) × (Inside (storeOf (now sheet)) (zeros (storeOf (now sheet)))) × (Small r) × (to .0 + (e - a) ≤ 262144) × (Sharable (storeOf (now sheet)) a e r) × (Free (storeOf (now sheet)) a e object (to .0) r p) ⌝ }
-    ensures { λ k. ⌜ (Inserted (storeOf (now (sheet .entry))) a e object (to .0) r p (storeOf (now (sheet .exit))) k) × (length (now (sheet .exit)) ≡ 2579) ⌝ }
+)
+    requires { ⌜ (length (now sheet) ≡ 2579) × (slot < 512) × (Small r) × (to .0 + (e - a) ≤ 262144) × (begins a r < ends e r) ⌝ }
+    ensures { λ _. ⌜ (storeOf (now (sheet .exit)) ≡ withRange slot (movedRange a e object (to .0) r) (storeOf (now (sheet .entry)))) × (length (now (sheet .exit)) ≡ 2579) ⌝ }
 {
     match shares::moved_part(r, a, e, object, to) {
-        Piece::Empty => p,
-        Piece::Part(n) => {
-            rows::insert_range(sheet, p, n);
-            p + 1
-        }
+        Piece::Empty => {}
+        Piece::Part(n) => sheet::set_range(sheet, slot, n),
+    }
+}
+
+// The parts of the k source ranges from row `first` of the table at the start on, written as the rows from `at` on, by which the table was opened.
+fn lay_parts(
+    sheet: &mut [u64; 2579],
+    at: usize,
+    first: usize,
+    k: usize,
+    a: usize,
+    e: usize,
+    object: u32,
+    to: PageNumber,
+)
+    requires { ⌜ (length (now sheet) ≡ 2579) × (to .0 + (e - a) ≤ 262144) × (Ready a e object (to .0) at first k (storeOf (now sheet))) ⌝ }
+    ensures { λ _. ⌜ ((R : Ready a e object (to .0) at first k (storeOf (now (sheet .entry)))) → Opening (R .store) a e object (to .0) at first k k (storeOf (now (sheet .exit)))) × (length (now (sheet .exit)) ≡ 2579) ⌝ }
+{
+    let mut i: usize = 0;
+    while i < k {
+        let slot = slot_now(first + i, at, at + k);
+        let r = sheet::range(sheet, slot);
+        lay_part(sheet, at + i, r, a, e, object, to);
+        i += 1;
     }
 }
 
 // "For each source range met", where no range has a page of the destination, which lies behind the first `at` ranges: the parts become the rows from `at` on.
-// No window is lost, so nothing is trimmed. The source's rows are read where they stand by then.
+// No window is lost, so nothing is trimmed.
 fn share_between(
     sheet: &mut [u64; 2579],
     source: u32,
@@ -82,20 +103,16 @@ fn share_between(
     n: usize,
     at: usize,
 )
-    requires { ⌜ (length (now sheet) ≡ 2579) × (Inside (storeOf (now sheet)) (zeros (storeOf (now sheet)))) × (source ≡ object → ⊥) × (from .0 + n ≤ 262144) × (to .0 + n ≤ 262144) × (storeOf (now sheet) .count + 2 * pages.met source (from .0) n (workOf (storeOf (now sheet)) (zeros (storeOf (now sheet)))) ≤ 512) × (at ≡ endsBy (line object (to .0)) (rangedOf (used (storeOf (now sheet))))) × (startsBefore (line object (to .0) + n) (rangedOf (used (storeOf (now sheet)))) ≤ at) ⌝ }
+    requires { ⌜ (length (now sheet) ≡ 2579) × (Inside (storeOf (now sheet)) (zeros (storeOf (now sheet)))) × (source ≡ object → ⊥) × (from .0 + n ≤ 262144) × (to .0 + n ≤ 262144) × (storeOf (now sheet) .count + 2 * pages.met source (from .0) n (workOf (storeOf (now sheet)) (zeros (storeOf (now sheet)))) ≤ 512) × (at ≡ endsBy (line object (to .0)) (rangedOf (used (storeOf (now sheet))))) × (startsBefore (line object (to .0) + n) (rangedOf (used (storeOf (now sheet)))) ≤ at) × (0 < n) ⌝ }
     ensures { λ _. ⌜ ((x : List ℕ) → Inside (storeOf (now (sheet .entry))) x → Reranged (storeOf (now (sheet .entry))) x (pages.sharing source (from .0) object (to .0) n (workOf (storeOf (now (sheet .entry))) x)) (line object (to .0)) (storeOf (now (sheet .exit)))) × (length (now (sheet .exit)) ≡ 2579) ⌝ }
 {
     let a = table::line_of(source, from);
     let e = a + n;
-    let mut j = rows::ends_by(sheet, a);
+    let first = rows::ends_by(sheet, a);
     let end = rows::starts_before(sheet, e);
-    let mut p = at;
-    while j < end {
-        let k = slot_now(j, at, p);
-        let r = sheet::range(sheet, k);
-        p = insert_part(sheet, p, r, a, e, object, to);
-        j += 1;
-    }
+    let k = end - first;
+    rows::shift(sheet, at, at + k);
+    lay_parts(sheet, at, first, k, a, e, object, to);
 }
 
 // "For each source range met", whatever ranges have pages of the destination. The ranges are those at the start: what is put in lies in `object`, and the
@@ -143,7 +160,7 @@ pub fn copy_range_to_object_tree(
     let g = table::line_of(object, to);
     let at = rows::ends_by(sheet, g);
     let stop = rows::starts_before(sheet, g + n);
-    if stop <= at {
+    if (0 < n) & (stop <= at) {
         share_between(sheet, source, from, object, to, n, at);
         return;
     }

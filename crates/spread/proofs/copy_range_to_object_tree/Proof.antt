@@ -7,6 +7,9 @@ use Rattle.store.specs.Abs.{used}
 use Rattle.sheet.specs.Sheet.{storeOf}
 use Rattle.pages.specs.Inside.{inside-table}
 use Rattle.pages.specs.Any.{zeros}
+use lib.Dec.{leb, ltb}
+use borrow.Author.Tests.{leb-true, ltb-true}
+use Rattle.lists.specs.Test.{and-left, and-right}
 use native.Mathlib.Omega.{arith}
 use borrow.Author.Needs.{needs}
 use Rattle.spread.proofs.copy_range_to_object_tree.Statement.{statement}
@@ -36,8 +39,10 @@ share-between-requires c κs =
     let g = c .before .before .before .before .before .before .line-of .ensures in
     let e = c .before .before .before .before .ends-by .ensures in
     let u = c .before .before .starts-before .ensures in
-    let t = c .before .if1 .taken in
-    (P .0, P .1, P .2, P .3, P .4, P .5, e ∙ ap (λ k. endsBy k rs) g, omega (arith, ap (λ k. startsBefore (k + a .n) rs) g))
+    let some = ltb-true 0 (a .n) (and-left (ltb 0 (a .n)) (leb (c .before .before .starts-before .result) (c .before .before .before .before .ends-by .result)) (c .before .if1 .taken)) in
+    let none = leb-true (c .before .before .starts-before .result) (c .before .before .before .before .ends-by .result)
+    (and-right (ltb 0 (a .n)) (leb (c .before .before .starts-before .result) (c .before .before .before .before .ends-by .result)) (c .before .if1 .taken)) in
+    (P .0, P .1, P .2, P .3, P .4, P .5, e ∙ ap (λ k. endsBy k rs) g, omega (arith, ap (λ k. startsBefore (k + a .n) rs) g), some)
 
 returns : tie.Need-returns
 returns c = search needs
