@@ -166,16 +166,26 @@ fn small(pool: &mut [u8]) {
 }
 
 // 4 MiB in 8, 40 and 510 ranges.
-fn timed_all(pool: &mut [u8], buf: &mut [u8; 4194304]) {
+fn timed_all(pool: &mut [u8], buf: &mut [u8])
+    requires { ⌜ length (now buf) ≤ 4194304 ⌝ }
+{
     both(pool, buf, 4, true);
     both(pool, buf, 20, true);
     both(pool, buf, 255, true);
 }
 
+// The same at four starts of the buffer, 16 bytes apart: what a copy costs depends on how the bytes of the buffer and those of a frame lie to each other in a line of the cache.
+fn at_four_starts(pool: &mut [u8], buf: &mut [u8; 4194352]) {
+    timed_all(pool, &mut buf[0..4194304]);
+    timed_all(pool, &mut buf[16..4194320]);
+    timed_all(pool, &mut buf[32..4194336]);
+    timed_all(pool, &mut buf[48..4194352]);
+}
+
 // The larger buffer stands in the frame of a function that calls itself, once for each round: it is not compiled into `main`, whose frame it would burst.
 fn large(pool: &mut [u8], rounds: u8) {
-    let mut buf = [0u8; 4194304];
-    timed_all(pool, &mut buf);
+    let mut buf = [0u8; 4194352];
+    at_four_starts(pool, &mut buf);
     if 1 < rounds {
         large(pool, rounds - 1);
     }

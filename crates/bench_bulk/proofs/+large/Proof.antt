@@ -7,7 +7,7 @@ use borrow.Fn.PlainCycle.{Measures, is, falls, and}
 use Rattle.bench_bulk.proofs.large.Reads as large
 use Rattle.bench_bulk.proofs.large.Kinds as large-kinds
 use Rattle.bench_bulk.proofs.+large.Lts-large as large-lts
-use Rattle.bench_bulk.proofs.timed_all.Reads as timed-all-reads
+use Rattle.bench_bulk.proofs.at_four_starts.Reads as at-four-starts-reads
 use Rattle.bench_bulk.proofs.+large.{statement}
 use Rattle.bench_bulk.proofs.+large.Tie.{close}
 
@@ -20,57 +20,57 @@ large-at t = and 1 large-kinds.ps (is 1 large-kinds.ps μ-large t) large.Pre
 abbrev large-below : ℕ → In 1 large-kinds.ps
 large-below t = and 1 large-kinds.ps (falls 1 large-kinds.ps _<_ μ-large t) large.Pre
 
-large-timed-all-requires : (t : ℕ) → large-lts.Need-timed-all-requires (
-  timed-all-reads.Asked,
-  timed-all-reads.Learnt,
+large-at-four-starts-requires : (t : ℕ) → large-lts.Need-at-four-starts-requires (
+  at-four-starts-reads.Asked,
+  at-four-starts-reads.Learnt,
   large-below t,
   large.Post,
 ) (large-at t) large.Post
-large-timed-all-requires t c κs = search needs
+large-at-four-starts-requires t c κs = search needs
 
 large-sub-large : (t : ℕ) → large-lts.Need-sub-large (
-  timed-all-reads.Asked,
-  timed-all-reads.Learnt,
+  at-four-starts-reads.Asked,
+  at-four-starts-reads.Learnt,
   large-below t,
   large.Post,
 ) (large-at t) large.Post
 large-sub-large t c = search needs
 
 large-large-requires : (t : ℕ) → large-lts.Need-large-requires (
-  timed-all-reads.Asked,
-  timed-all-reads.Learnt,
+  at-four-starts-reads.Asked,
+  at-four-starts-reads.Learnt,
   large-below t,
   large.Post,
 ) (large-at t) large.Post
 large-large-requires t c κs = search needs
 
 large-same-length : (t : ℕ) → large-lts.Need-same-length (
-  timed-all-reads.Asked,
-  timed-all-reads.Learnt,
+  at-four-starts-reads.Asked,
+  at-four-starts-reads.Learnt,
   large-below t,
   large.Post,
 ) (large-at t) large.Post
 large-same-length t c = search needs
 
 large-returns : (t : ℕ) → large-lts.Need-returns (
-  timed-all-reads.Asked,
-  timed-all-reads.Learnt,
+  at-four-starts-reads.Asked,
+  at-four-starts-reads.Learnt,
   large-below t,
   large.Post,
 ) (large-at t) large.Post
 large-returns t c = search needs
 
 large-same-length-2 : (t : ℕ) → large-lts.Need-same-length-2 (
-  timed-all-reads.Asked,
-  timed-all-reads.Learnt,
+  at-four-starts-reads.Asked,
+  at-four-starts-reads.Learnt,
   large-below t,
   large.Post,
 ) (large-at t) large.Post
 large-same-length-2 t c = search needs
 
 large-returns-2 : (t : ℕ) → large-lts.Need-returns-2 (
-  timed-all-reads.Asked,
-  timed-all-reads.Learnt,
+  at-four-starts-reads.Asked,
+  at-four-starts-reads.Learnt,
   large-below t,
   large.Post,
 ) (large-at t) large.Post
@@ -78,14 +78,14 @@ large-returns-2 t c = search needs
 
 pub +large-spec : {M : Type 1} → statement M
 +large-spec = close μ-large λ t. large-lts.spec (
-  timed-all-reads.Asked,
-  timed-all-reads.Learnt,
+  at-four-starts-reads.Asked,
+  at-four-starts-reads.Learnt,
   large-below t,
   large.Post,
 )
     (large-at t)
     large.Post
-    (large-timed-all-requires t)
+    (large-at-four-starts-requires t)
     (large-sub-large t)
     (large-large-requires t)
     (large-same-length t)
