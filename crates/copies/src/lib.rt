@@ -64,6 +64,7 @@ pub fn zero_ranges(s: Store, pool: &mut [u8], object: u32, offset: usize, n: usi
 // "A copy at equal places copies its partly touched pages as bytes and shares whole pages."
 fn copy_equal(
     sheet: &mut [u64; 2579],
+    links: &[u16; 2048],
     pool: &mut [u8],
     source: u32,
     from: usize,
@@ -75,12 +76,21 @@ fn copy_equal(
     ensures { λ _. ⌜ (Worked (storeOf (now (sheet .entry))) (now (pool .entry)) (copyEqual source from object to n (workOf (storeOf (now (sheet .entry))) (now (pool .entry)))) (storeOf (now (sheet .exit))) (now (pool .exit))) × (length (now (sheet .exit)) ≡ 2579) ⌝ }
 {
     let p = PageNumber::span_of(from, n);
-    writing::copy_bytes(sheet, pool, source, from, object, to, p.head);
+    writing::copy_bytes(sheet, links, pool, source, from, object, to, p.head);
     let first = PageNumber::from_offset(from + p.head);
     let place = PageNumber::from_offset(to + p.head);
     spread::copy_range_to_object_tree(sheet, source, first, object, place, p.whole);
     let done = p.head + p.whole * PageNumber::PAGE_SIZE;
-    writing::copy_bytes(sheet, pool, source, from + done, object, to + done, p.tail);
+    writing::copy_bytes(
+        sheet,
+        links,
+        pool,
+        source,
+        from + done,
+        object,
+        to + done,
+        p.tail,
+    );
 }
 
 // "At unequal places all is bytes, absent source bytes being zeros."
@@ -99,7 +109,7 @@ fn copy_span(
     ensures { λ _. ⌜ (Worked (storeOf (now (sheet .entry))) (now (pool .entry)) (copying source from object to n (workOf (storeOf (now (sheet .entry))) (now (pool .entry)))) (storeOf (now (sheet .exit))) (now (pool .exit))) × (length (now (sheet .exit)) ≡ 2579) ⌝ }
 {
     if PageNumber::place(from) == PageNumber::place(to) {
-        copy_equal(sheet, pool, source, from, object, to, n);
+        copy_equal(sheet, links, pool, source, from, object, to, n);
         return;
     }
     writing::copy_over(sheet, holders, links, pool, source, from, object, to, n);

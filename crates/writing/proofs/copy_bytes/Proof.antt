@@ -10,10 +10,10 @@ use Rattle.writing.proofs.copy_bytes.Statement.{statement}
 use Rattle.writing.proofs.copy_bytes.Tie as tie
 
 abbrev Inv-loop : tie.InvT-loop
-Inv-loop sheet₀ pool₀ source from object offset n done₀ sheet pool done = (length sheet ≡ 2579) × Copying (storeOf sheet₀) pool₀ source from object offset n done (storeOf sheet) pool
+Inv-loop sheet₀ links pool₀ source from object offset n done₀ sheet pool done = (length sheet ≡ 2579) × Copying (storeOf sheet₀) pool₀ source from object offset n done (storeOf sheet) pool
 
 abbrev μ-loop : tie.MeasureT-loop
-μ-loop sheet₀ pool₀ source from object offset n done₀ sheet pool done = n - done
+μ-loop sheet₀ links pool₀ source from object offset n done₀ sheet pool done = n - done
 
 loop-holds : tie.Need-loop-holds Inv-loop μ-loop
 loop-holds c =

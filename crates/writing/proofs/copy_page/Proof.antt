@@ -7,6 +7,7 @@ use Rattle.pages.specs.Inside.{inside-table}
 use Rattle.pages.specs.Steps.{frame-inside}
 use Rattle.moves.specs.Made.{made-away, source-wrote}
 use Rattle.sheet.specs.Sheet.{storeOf}
+use Rattle.writing.specs.Alone.{inside-lone}
 use Rattle.writing.proofs.copy_page.Statement.{statement}
 use Rattle.writing.proofs.copy_page.Tie as tie
 
@@ -42,7 +43,7 @@ move-in-requires c κs =
     let e : (r .result * 4096 + k .result) / 4096 ≡ r .result = omega (arith, k .ensures) in
     let I = M .inside in
     let l = frame-inside _ _ I (r .result) (M .has .below) in (
-      (inside-table _ _ I, I .few-frames, I .pool),
+      (inside-table _ _ I, I .few-frames, I .pool, inside-lone _ _ I),
       (q .1 .1, omega (arith, k .ensures, q .1 .0), omega (arith, k .ensures, q .1 .0, l), rw e A),
     )
 

@@ -36,7 +36,7 @@ sub-move-part c = search needs
 move-part-requires-2 : tie.Need-move-part-requires-2
 move-part-requires-2 c κs =
     let q = c .before .before .before .before .before .before .before .before .before .before .pre .0 in
-    ((q .0, q .1, c .before .before .before .move-part .kept .1 .0 ∙ q .2), (search needs, search needs, search needs))
+    ((q .0, q .1, c .before .before .before .move-part .kept .1 .1 .0 ∙ q .2, q .3), (search needs, search needs, search needs))
 
 same-length : tie.Need-same-length
 same-length c = search needs
