@@ -89,14 +89,9 @@ pub fn holder_count(sheet: &[u64; 2579], b: u32) -> usize
     let mut n: usize = 0;
     let mut i: usize = 0;
     while i < m {
-        let r = range(sheet, i);
-        let k = r.backing;
+        let k = sheet::backing(sheet[1024 + i]);
         let x = number(k);
-        if b == x {
-            n += 1;
-            i += 1;
-            continue;
-        }
+        n += (b == x) as usize;
         i += 1;
     }
     n

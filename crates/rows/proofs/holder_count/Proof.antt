@@ -3,8 +3,10 @@ use borrow.Author.Needs.{needs}
 use native.Mathlib.Omega.{arith}
 use mathlib.Core.Path.{_≡_, ap, _∙_}
 use Prim.Native.Nat.{_+_, _-_, _≤_}
+use borrow.Author.Tests.{eq-eqb, ne-eqb}
+use Rattle.lists.specs.Test.{by-eq}
 use Rattle.sheet.specs.Sheet.{storeOf, rangeAt}
-use Rattle.sheet.specs.Edits.{storeOf-sized}
+use Rattle.sheet.specs.Edits.{range-read, storeOf-sized}
 use Rattle.table.specs.Holding.{left, holders-hit, holders-miss, holders-end}
 use Rattle.ranges.specs.Table.{holders}
 use Rattle.table.specs.Table.{numberOf}
@@ -25,14 +27,31 @@ count-requires c κs = search needs
 loop-holds : tie.Need-loop-holds Inv-loop μ-loop
 loop-holds c = (search needs, search needs, omega arith)
 
-range-requires : tie.Need-range-requires Inv-loop μ-loop
-range-requires c κs = search needs
+add-backing : tie.Need-add-backing Inv-loop μ-loop
+add-backing c = search needs
+
+mul-backing : tie.Need-mul-backing Inv-loop μ-loop
+mul-backing c = search needs
+
+element-copy-out-backing : tie.Need-element-copy-out-backing Inv-loop μ-loop
+element-copy-out-backing c = search needs
+
+backing-requires : tie.Need-backing-requires Inv-loop μ-loop
+backing-requires c κs = search needs
 
 number-requires : tie.Need-number-requires Inv-loop μ-loop
 number-requires c κs = search needs
 
+cast-n : tie.Need-cast-n Inv-loop μ-loop
+cast-n c = search needs
+
 add-n : tie.Need-add-n Inv-loop μ-loop
-add-n c = search needs
+add-n c =
+    let a = c .before .before .before .before .before .before .args in
+    let s = c .before .before .before .before .loop in
+    by-eq (a .b) (c .number .result)
+    (λ e. rw (eq-eqb (a .b) (c .number .result) e) (record { fits = omega (arith, s .inv .0, s .inv .1, c .before .before .before .before .before .before .pre) }))
+    (λ e. rw (ne-eqb (a .b) (c .number .result) e) (record { fits = omega (arith, s .inv .0, s .inv .1, c .before .before .before .before .before .before .pre) }))
 
 add-i : tie.Need-add-i Inv-loop μ-loop
 add-i c = search needs
@@ -44,33 +63,18 @@ loop-again : tie.Need-loop-again Inv-loop μ-loop
 loop-again c =
     let a = c .before .before .before .before .before .before .args in
     let s = c .before .before .before .before .loop in
-    let t = c .if1 .taken in
     let z = storeOf-sized (a .sheet .now) .ranges in
     let p = c .before .before .before .before .before .before .pre in
-    let x : c .before .number .result ≡ numberOf (rangeAt (storeOf (a .sheet .now)) (s .i) .backing) =
-    c .before .number .ensures ∙ ap (λ (r : PageRange). numberOf (r .backing)) (c .before .before .range .ensures) in
-    let h = holders-hit (storeOf (a .sheet .now) .ranges) (storeOf (a .sheet .now) .count) (omega arith) (a .b) (s .i) (c .before .number .result) (omega arith) x (omega arith) in
     let v = s .inv .2 in
-    (omega arith, omega arith, omega (arith, h, v))
-
-add-i-2 : tie.Need-add-i-2 Inv-loop μ-loop
-add-i-2 c = search needs
-
-loop-less-2 : tie.Need-loop-less-2 Inv-loop μ-loop
-loop-less-2 c = search needs
-
-loop-again-2 : tie.Need-loop-again-2 Inv-loop μ-loop
-loop-again-2 c =
-    let a = c .before .before .before .before .before .before .args in
-    let s = c .before .before .before .before .loop in
-    let t = c .if1 .left in
-    let z = storeOf-sized (a .sheet .now) .ranges in
-    let p = c .before .before .before .before .before .before .pre in
-    let x : c .before .number .result ≡ numberOf (rangeAt (storeOf (a .sheet .now)) (s .i) .backing) =
-    c .before .number .ensures ∙ ap (λ (r : PageRange). numberOf (r .backing)) (c .before .before .range .ensures) in
-    let h = holders-miss (storeOf (a .sheet .now) .ranges) (storeOf (a .sheet .now) .count) (omega arith) (a .b) (s .i) (c .before .number .result) (omega arith) x (λ y. omega arith) in
-    let v = s .inv .2 in
-    (omega arith, omega arith, omega (arith, h, v))
+    let x : c .number .result ≡ numberOf (rangeAt (storeOf (a .sheet .now)) (s .i) .backing) =
+    c .number .ensures ∙ ap numberOf (c .before .backing .ensures ∙ ap (λ (r : PageRange). r .backing) (range-read (a .sheet .now) (s .i) (omega arith))) in
+    by-eq (a .b) (c .number .result)
+    (λ e.
+    let h = holders-hit (storeOf (a .sheet .now) .ranges) (storeOf (a .sheet .now) .count) (omega arith) (a .b) (s .i) (c .number .result) (omega arith) x e in
+    rw (eq-eqb (a .b) (c .number .result) e) (omega arith, omega (arith, s .inv .1), omega (arith, h, v)))
+    (λ e.
+    let h = holders-miss (storeOf (a .sheet .now) .ranges) (storeOf (a .sheet .now) .count) (omega arith) (a .b) (s .i) (c .number .result) (omega arith) x e in
+    rw (ne-eqb (a .b) (c .number .result) e) (omega arith, omega (arith, s .inv .1), omega (arith, h, v)))
 
 returns : tie.Need-returns Inv-loop μ-loop
 returns c =
@@ -90,13 +94,14 @@ holder-count-spec =
     μ-loop
     count-requires
     loop-holds
-    range-requires
+    add-backing
+    mul-backing
+    element-copy-out-backing
+    backing-requires
     number-requires
+    cast-n
     add-n
     add-i
     loop-less
     loop-again
-    add-i-2
-    loop-less-2
-    loop-again-2
     returns)
