@@ -1,6 +1,7 @@
 // WHAT MANY BYTES COST: 4 MiB read and written in one call and in calls of a page, 2 MiB copied to unequal places. Lines as in crates/bench. With no input the
 // buffer has 1 MiB, so that the program runs with a stack of 8 MiB; bench/run lends it a larger one.
 use store::Store;
+ghost use mathlib.Core.Path.{_≡_};
 ghost use Prim.Native.Nat.{_+_, _*_, _≤_, _<_};
 ghost use lib.ListN.{length};
 
@@ -174,18 +175,32 @@ fn timed_all(pool: &mut [u8], buf: &mut [u8])
     both(pool, buf, 255, true);
 }
 
-// The same at four starts of the buffer, 16 bytes apart: what a copy costs depends on how the bytes of the buffer and those of a frame lie to each other in a line of the cache.
-fn at_four_starts(pool: &mut [u8], buf: &mut [u8; 4194352]) {
-    timed_all(pool, &mut buf[0..4194304]);
-    timed_all(pool, &mut buf[16..4194320]);
-    timed_all(pool, &mut buf[32..4194336]);
-    timed_all(pool, &mut buf[48..4194352]);
+// The same from byte k of the buffer on.
+fn at_start(pool: &mut [u8], buf: &mut [u8], k: usize)
+    requires { ⌜ (length (now buf) ≡ 4194352) × (k ≤ 48) ⌝ }
+{
+    let e = k + 4194304;
+    timed_all(pool, &mut buf[k..e]);
+}
+
+// Four starts of the buffer, 16 bytes apart: what a copy costs depends on how the bytes of the buffer and those of a frame lie to each other in a line of the cache.
+fn at_four_starts(pool: &mut [u8], buf: &mut [u8])
+    requires { ⌜ length (now buf) ≡ 4194352 ⌝ }
+{
+    at_start(pool, buf, 0);
+    at_start(pool, buf, 16);
+    at_start(pool, buf, 32);
+    at_start(pool, buf, 48);
+}
+
+fn with_buffer(pool: &mut [u8], buf: &mut [u8; 4194352]) {
+    at_four_starts(pool, buf);
 }
 
 // The larger buffer stands in the frame of a function that calls itself, once for each round: it is not compiled into `main`, whose frame it would burst.
 fn large(pool: &mut [u8], rounds: u8) {
     let mut buf = [0u8; 4194352];
-    at_four_starts(pool, &mut buf);
+    with_buffer(pool, &mut buf);
     if 1 < rounds {
         large(pool, rounds - 1);
     }
