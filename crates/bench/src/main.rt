@@ -360,8 +360,22 @@ fn all(pool: &mut [u8], mode: u8) {
     table(pool, mode);
 }
 
+// Zeroing and the shadow copy, once, with the store that they leave looked at: calls that stand in the program twice are not compiled into the loop that measures them, where
+// what nobody looks at could be left out.
+fn looked_at(pool: &mut [u8]) -> bool {
+    let s = fills::empty();
+    let z = copies::zero_ranges(s, pool, 0, 0, 4096);
+    let t = z.store;
+    let r = copies::copy_range_to_shadow(t, pool, 0, 0, 1, 0, 4096);
+    let u = r.store;
+    let n = calls::counts(u);
+    n.number == 0
+}
+
 fn lent(pool: &mut [u8; 4194304], mode: u8) {
-    all(pool, mode);
+    if looked_at(pool) {
+        all(pool, mode);
+    }
 }
 
 fn main() {

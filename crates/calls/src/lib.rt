@@ -14,6 +14,7 @@ ghost use Rattle.store.specs.Abs.{used, bookOf};
 ghost use Rattle.store.specs.Sound.{sound?, Sound};
 ghost use Rattle.store.specs.Empty.{Blank};
 ghost use Rattle.sheet.specs.Sheet.{storeOf};
+ghost use Rattle.closing.specs.Closed.{Closed};
 ghost use Rattle.calls.specs.Drop.{Dropped};
 ghost use Rattle.book.specs.Book.{newObject, dropObject, lookUp, counts, create, done, state, numbers};
 ghost use Rattle.look.specs.declared.State.the-variants.{Absent};
@@ -168,17 +169,16 @@ pub fn create(frames: usize) -> Reply
     }
 }
 
-// The store that is left of a sheet without an object's ranges and the frames that stand in no window then.
-fn without_object(sheet: &mut [u64; 2579], object: u32) -> Store
+// A sheet without an object's ranges and name, and without the frames that stand in no window then: the store that is made of it is what a drop leaves.
+fn without_object(sheet: &mut [u64; 2579], object: u32)
     requires { ⌜ (length (now sheet) ≡ 2579) × (Sound (storeOf (now sheet))) × (object < 32) × (length (carve (line object 0) (line object 0 + 262144) (rangedOf (used (storeOf (now sheet))))) ≤ 512) ⌝ }
-    ensures { λ r. ⌜ Dropped (storeOf (now (sheet .entry))) object r ⌝ }
+    ensures { λ _. ⌜ ((r : Store) → Closed (now (sheet .exit)) r → Dropped (storeOf (now (sheet .entry))) object r) × (storeOf (now (sheet .exit)) .frames ≤ 1024) ⌝ }
 {
     let a = table::line_of(object, PageNumber(0));
     rows::cut_range(sheet, a, a + PageNumber::COUNT);
     tidy::trim(sheet);
     let live = sheet::live(sheet);
     sheet::set_live(sheet, live & !(1u32 << object));
-    closing::closed(sheet)
 }
 
 // "A drop takes the ranges too."
@@ -199,9 +199,20 @@ pub fn drop_object(s: Store, object: u32) -> Reply
             number: k,
         };
     }
-    let t = without_object(&mut sheet, object);
+    without_object(&mut sheet, object);
+    let frames = sheet::frames(&sheet);
+    let ranges = closing::ranges_of(&sheet);
+    let places = closing::places_of(&sheet);
+    let free = closing::free_map(&sheet, frames);
     Reply {
-        store: t,
+        store: Store {
+            frames,
+            live: sheet::live(&sheet),
+            count: sheet::count(&sheet),
+            ranges,
+            places,
+            free,
+        },
         number: 0,
     }
 }

@@ -54,9 +54,19 @@ pub fn zero_ranges(s: Store, pool: &mut [u8], object: u32, offset: usize, n: usi
         };
     }
     zero_span(&mut sheet, pool, object, offset, n);
-    let t = closing::closed(&sheet);
+    let frames = sheet::frames(&sheet);
+    let ranges = closing::ranges_of(&sheet);
+    let places = closing::places_of(&sheet);
+    let free = closing::free_map(&sheet, frames);
     Reply {
-        store: t,
+        store: Store {
+            frames,
+            live: sheet::live(&sheet),
+            count: sheet::count(&sheet),
+            ranges,
+            places,
+            free,
+        },
         number: 0,
     }
 }
@@ -209,9 +219,19 @@ pub fn copy_range_to_shadow(
     let place = PageNumber::from_offset(to);
     let m = n / PageNumber::PAGE_SIZE;
     spread::copy_range_to_object_tree(&mut sheet, source, first, object, place, m);
-    let t = closing::closed(&sheet);
+    let frames = sheet::frames(&sheet);
+    let ranges = closing::ranges_of(&sheet);
+    let places = closing::places_of(&sheet);
+    let free = closing::free_map(&sheet, frames);
     Reply {
-        store: t,
+        store: Store {
+            frames,
+            live: sheet::live(&sheet),
+            count: sheet::count(&sheet),
+            ranges,
+            places,
+            free,
+        },
         number: 0,
     }
 }

@@ -14,6 +14,7 @@ use Rattle.calls.specs.Calls.{did-refused}
 use Rattle.calls.specs.Drop.{Dropped, drop-name, drop-room, drop-done}
 use native.Mathlib.Omega.{arith}
 use borrow.Author.Needs.{needs}
+use Rattle.closing.specs.Closed.{closed-parts}
 use Rattle.sound.specs.Parts.{brought}
 use Rattle.calls.proofs.drop_object.Statement.{statement}
 use Rattle.calls.proofs.drop_object.Tie as tie
@@ -49,17 +50,38 @@ without-object-requires c κs =
     let room = subst (λ (t : Store). length (carve (line (a .object) 0) (line (a .object) 0 + 262144) (rangedOf (used t))) ≤ 512) (sym (E .store)) m in
     (E .long, E .sound, drop-name (a .s) (a .object) (T .sized) r, room)
 
+frames-requires : tie.Need-frames-requires
+frames-requires c κs = search needs
+
+ranges-of-requires : tie.Need-ranges-of-requires
+ranges-of-requires c κs = search needs
+
+places-of-requires : tie.Need-places-of-requires
+places-of-requires c κs = search needs
+
+free-map-requires : tie.Need-free-map-requires
+free-map-requires c κs = omega (arith, c .before .before .before .before .before .frames .ensures, c .before .before .before .before .before .before .before .without-object .ensures .1)
+
+live-requires : tie.Need-live-requires
+live-requires c κs = search needs
+
+count-requires : tie.Need-count-requires
+count-requires c κs = search needs
+
 returns-2 : tie.Need-returns-2
 returns-2 c =
-    let a = c .before .before .before .before .before .before .before .before .before .before .before .before .before .before .args in
-    let q = c .before .before .before .drop-object in
-    let T = tried (c .before .before .before .before .before .examine .ensures _ (brought (c .before .before .before .before .before .before .before .before .before .before .before .before .load .ensures) (c .before .before .before .before .before .before .before .before .before .rows .ensures))) in
-    let k : q .result ≡ 0 = omega (arith, c .before .before .if1 .left) in
+    let a = c .before .before .before .before .before .before .before .before .before .before .before .before .before .before .before .before .before .before .before .before .before .before .before .before .before .before .args in
+    let q = c .before .before .before .before .before .before .before .before .before .before .before .before .before .before .before .drop-object in
+    let T = tried (c .before .before .before .before .before .before .before .before .before .before .before .before .before .before .before .before .before .examine .ensures _ (brought (c .before .before .before .before .before .before .before .before .before .before .before .before .before .before .before .before .before .before .before .before .before .before .before .before .load .ensures) (c .before .before .before .before .before .before .before .before .before .before .before .before .before .before .before .before .before .before .before .before .before .rows .ensures))) in
+    let k : q .result ≡ 0 = omega (arith, c .before .before .before .before .before .before .before .before .before .before .before .before .before .before .if1 .left) in
     let r : (x : List ℕ) → 0 ≡ refusal (a .s) x (dropObject (a .object)) = λ x. sym k ∙ refuses T x _ (q .ensures x) in
     let E = accepted T [] _ (q .ensures []) k in
-    let D = subst (λ (t : Store). Dropped t (a .object) (c .without-object .result)) (E .store) (c .without-object .ensures) in
-    drop-done (a .s) (a .object) (T .sized) r (c .without-object .result) D
+    let m = closed-parts _ _ _ _ _ _ _ (c .before .before .before .before .before .before .before .before .before .before .frames .ensures) (c .before .before .live .ensures) (c .count .ensures)
+    (c .before .before .before .before .before .before .before .before .ranges-of .ensures) (c .before .before .before .before .before .before .places-of .ensures) (c .before .before .before .before .free-map .ensures) in
+    let u : Store = record { frames = c .before .before .before .before .before .before .before .before .before .before .frames .result; live = c .before .before .live .result; count = c .count .result; ranges = c .before .before .before .before .before .before .before .before .ranges-of .result; places = c .before .before .before .before .before .before .places-of .result; free = c .before .before .before .before .free-map .result } in
+    let D = subst (λ (t : Store). Dropped t (a .object) u) (E .store) (c .before .before .before .before .before .before .before .before .before .before .before .before .without-object .ensures .0 u m) in
+    drop-done (a .s) (a .object) (T .sized) r u D
 
 pub drop-object-spec : {M : Type 1} → statement M
 drop-object-spec =
-    tie.close (tie.spec load-requires rows-requires examine-requires drop-object-requires returns without-object-requires returns-2)
+    tie.close (tie.spec load-requires rows-requires examine-requires drop-object-requires returns without-object-requires frames-requires ranges-of-requires places-of-requires free-map-requires live-requires count-requires returns-2)

@@ -43,21 +43,20 @@ shl-set-live c = search needs
 set-live-requires : tie.Need-set-live-requires
 set-live-requires c κs = search needs
 
-closed-requires : tie.Need-closed-requires
-closed-requires c κs =
-    let f = ap (λ (q : Store). q .frames) (c .before .set-live .ensures .0) ∙ ap (λ (q : Store). q .frames) (c .before .before .before .before .before .trim .ensures .0) ∙ ap (λ (q : Store). q .frames) (c .before .before .before .before .before .before .before .cut-range .ensures .0 .same) in
-    let few = c .before .before .before .before .before .before .before .before .before .before .pre .1 .few-frames in
-    omega (arith, f, few)
-
 returns : tie.Need-returns
 returns c =
-    let a = c .before .before .before .before .before .before .before .before .before .before .before .args in
-    let C = c .before .before .before .before .before .before .before .before .cut-range .ensures .0 in
-    let n : ℕ = bitAnd (c .before .before .before .before .live .result) (2 ^ 32 - 1 - 1 * 2 ^ a .object % 2 ^ 32) in
-    dropped (storeOf (a .sheet .now)) _ _ _ (c .closed .result) (a .object) n
-    (subst (λ (k : ℕ). CutIs k (k + 262144) (storeOf (a .sheet .now)) (storeOf (c .before .before .before .before .before .before .before .before .cut-range .last .0))) (c .before .before .before .before .before .before .before .before .before .before .line-of .ensures) C)
-    (c .before .before .before .before .before .before .trim .ensures .0) (c .before .before .set-live .ensures .0) (c .closed .ensures .0)
-    (ap (λ (k : ℕ). bitAnd k (2 ^ 32 - 1 - 1 * 2 ^ a .object % 2 ^ 32)) (c .before .before .before .before .live .ensures)) (c .closed .ensures .1)
+    let a = c .before .before .before .before .before .before .before .before .before .args in
+    let C = c .before .before .before .before .before .before .cut-range .ensures .0 in
+    let n : ℕ = bitAnd (c .before .before .live .result) (2 ^ 32 - 1 - 1 * 2 ^ a .object % 2 ^ 32) in
+    let f = ap (λ (q : Store). q .frames) (c .set-live .ensures .0) ∙ ap (λ (q : Store). q .frames) (c .before .before .before .before .trim .ensures .0) ∙ ap (λ (q : Store). q .frames) (C .same) in
+    let few = c .before .before .before .before .before .before .before .before .before .pre .1 .few-frames in (
+      λ r m.
+          dropped (storeOf (a .sheet .now)) _ _ _ r (a .object) n
+          (subst (λ (k : ℕ). CutIs k (k + 262144) (storeOf (a .sheet .now)) (storeOf (c .before .before .before .before .before .before .cut-range .last .0))) (c .before .before .before .before .before .before .before .before .line-of .ensures) C)
+          (c .before .before .before .before .trim .ensures .0) (c .set-live .ensures .0) (m .0)
+          (ap (λ (k : ℕ). bitAnd k (2 ^ 32 - 1 - 1 * 2 ^ a .object % 2 ^ 32)) (c .before .before .live .ensures)) (m .1),
+      omega (arith, f, few),
+    )
 
 pub without-object-spec : {M : Type 1} → statement M
 without-object-spec =
@@ -70,5 +69,4 @@ without-object-spec =
     live-requires
     shl-set-live
     set-live-requires
-    closed-requires
     returns)

@@ -8,6 +8,7 @@ use Rattle.enter.specs.Enter.{accepted, refuses, tried}
 use Rattle.access.specs.Finish.{handed}
 use native.Mathlib.Omega.{arith}
 use borrow.Author.Needs.{needs}
+use Rattle.closing.specs.Closed.{closed-parts}
 use Rattle.sound.specs.Parts.{brought}
 use Rattle.copies.proofs.zero_ranges.Statement.{statement}
 use Rattle.copies.proofs.zero_ranges.Tie as tie
@@ -39,25 +40,41 @@ zero-span-requires c κs =
     let r : 0 ≡ refusal (a .s) (a .pool .now) (zeroOut (a .object) (a .offset) (a .n)) = sym k ∙ refuses T _ _ (e (a .pool .now) refl) in
     (E .long, rw (E .store) (zero-enters (a .s) (a .pool .now) (T .sized) (a .object) (a .offset) (a .n) r))
 
-closed-requires : tie.Need-closed-requires
-closed-requires c κs = search needs
+frames-requires : tie.Need-frames-requires
+frames-requires c κs = search needs
+
+ranges-of-requires : tie.Need-ranges-of-requires
+ranges-of-requires c κs = search needs
+
+places-of-requires : tie.Need-places-of-requires
+places-of-requires c κs = search needs
+
+free-map-requires : tie.Need-free-map-requires
+free-map-requires c κs = search needs
+
+live-requires : tie.Need-live-requires
+live-requires c κs = search needs
+
+count-requires : tie.Need-count-requires
+count-requires c κs = search needs
 
 same-length : tie.Need-same-length
 same-length c = search needs
 
 returns-2 : tie.Need-returns-2
 returns-2 c =
-    let a = c .before .before .before .before .before .before .before .before .before .before .before .before .before .before .before .before .before .before .before .before .before .before .args in
-    let e = c .before .before .before .before .before .before .before .before .zero .ensures in
-    let T = tried (c .before .before .before .before .before .before .before .before .before .before .before .before .examine .ensures _ (brought (c .before .before .before .before .before .before .before .before .before .before .before .before .before .before .before .before .before .before .before .load .ensures) (c .before .before .before .before .before .before .before .before .before .before .before .before .before .before .before .before .rows .ensures))) in
-    let k : c .before .before .before .before .before .before .before .before .zero .result ≡ 0 = omega (arith, c .before .before .before .before .before .before .before .if1 .left) in
+    let a = c .before .before .before .before .before .before .before .before .before .before .before .before .before .before .before .before .before .before .before .before .before .before .before .before .before .before .before .before .before .before .before .before .args in
+    let e = c .before .before .before .before .before .before .before .before .before .before .before .before .before .before .before .before .before .before .zero .ensures in
+    let T = tried (c .before .before .before .before .before .before .before .before .before .before .before .before .before .before .before .before .before .before .before .before .before .before .examine .ensures _ (brought (c .before .before .before .before .before .before .before .before .before .before .before .before .before .before .before .before .before .before .before .before .before .before .before .before .before .before .before .before .before .load .ensures) (c .before .before .before .before .before .before .before .before .before .before .before .before .before .before .before .before .before .before .before .before .before .before .before .before .before .before .rows .ensures))) in
+    let k : c .before .before .before .before .before .before .before .before .before .before .before .before .before .before .before .before .before .before .zero .result ≡ 0 = omega (arith, c .before .before .before .before .before .before .before .before .before .before .before .before .before .before .before .before .before .if1 .left) in
     let E = accepted T _ _ (e (a .pool .now) refl) k in
     let r : 0 ≡ refusal (a .s) (a .pool .now) (zeroOut (a .object) (a .offset) (a .n)) = sym k ∙ refuses T _ _ (e (a .pool .now) refl) in
-    let S = rw (E .store) at (c .before .before .before .before .zero-span .ensures .0) in
-    let m = c .closed .ensures in
+    let S = rw (E .store) at (c .before .before .before .before .before .before .before .before .before .before .before .before .before .before .zero-span .ensures .0) in
+    let m = closed-parts _ _ _ _ _ _ _ (c .before .before .before .before .before .before .before .before .before .before .frames .ensures) (c .before .before .live .ensures) (c .count .ensures)
+    (c .before .before .before .before .before .before .before .before .ranges-of .ensures) (c .before .before .before .before .before .before .places-of .ensures) (c .before .before .before .before .free-map .ensures) in
     handed _ _ _ _ _ _ _ _ (m .0) (zero-done (a .s) (a .pool .now) (T .sized) (a .object) (a .offset) (a .n) r _ _ S _ (m .1))
 
 pub zero-ranges-spec : {M : Type 1} → statement M
 zero-ranges-spec =
     tie.close
-    (tie.spec load-requires rows-requires examine-requires zero-requires returns zero-span-requires closed-requires same-length returns-2)
+    (tie.spec load-requires rows-requires examine-requires zero-requires returns zero-span-requires frames-requires ranges-of-requires places-of-requires free-map-requires live-requires count-requires same-length returns-2)
