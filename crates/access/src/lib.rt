@@ -3,7 +3,7 @@ use calls::Reply;
 use page::PageNumber;
 use store::Store;
 ghost use mathlib.Core.Path.{_≡_};
-ghost use Prim.Native.Nat.{_≤_, _<_};
+ghost use Prim.Native.Nat.{_<_};
 ghost use lib.ListN.{length};
 ghost use Rattle.book.specs.Book.{add, read, write, added, bytes, done};
 ghost use Rattle.calls.specs.With.{DidWith};

@@ -3,7 +3,6 @@
 // take 0.02 seconds of processor time. `g`: how cost grows. Any other: the table. bench/run has what each work is.
 use store::Store;
 ghost use Prim.Native.Nat.{_+_, _*_, _≤_, _<_};
-ghost use lib.ListN.{length};
 
 // ---- works by number: 0 to 10 at any fill, 11 to 14 where there is room, 15 to 18 at a hand-over
 fn name(work: u8) -> bool {

@@ -256,7 +256,7 @@ fn replace(sheet: &mut [u64; 2579], p: usize, q: usize, before: Piece, middle: P
 }
 
 // A range put in as row p, where no range meets its pages and p is its place: the rows from p on move up by one.
-pub fn insert_range(sheet: &mut [u64; 2579], p: usize, n: PageRange)
+fn insert_range(sheet: &mut [u64; 2579], p: usize, n: PageRange)
     requires { ⌜ (length (now sheet) ≡ 2579) × (Table (storeOf (now sheet) .ranges) (storeOf (now sheet) .count)) × (Blank (storeOf (now sheet))) ⌝ }
     requires { ⌜ (Small n) × (0 < n .length) × (storeOf (now sheet) .count + 2 ≤ 512) × (p ≡ endsBy (from (ranged n)) (rangedOf (used (storeOf (now sheet))))) × (startsBefore (upto (ranged n)) (rangedOf (used (storeOf (now sheet)))) ≤ p) ⌝ }
     ensures { λ _. ⌜ (PutIs n (storeOf (now (sheet .entry))) (storeOf (now (sheet .exit)))) × (length (now (sheet .exit)) ≡ 2579) ⌝ }

@@ -35,9 +35,6 @@ kept-set a e w v k x K l m = record {
   above = λ j h. getD-set-other v k j x 0 (λ q. omega arith) ∙ K .above j h;
 }
 
-pub kept-then : (a e : ℕ) (w u v : List ℕ) → Kept a e w u → Kept a e u v → Kept a e w v
-kept-then a e w u v K L = record { below = λ k h. L .below k h ∙ K .below k h; above = λ k h. L .above k h ∙ K .above k h }
-
 -- ---- places: the numbers of the first n frames tell where they stand
 pub record Spots (ps : List Place) (n : ℕ) (w : List ℕ) : Type 0 where
   pub number : (f : ℕ) → f < n → getD w (1536 + f) 0 ≡ spotNumber (placeAt ps f)

@@ -12,7 +12,7 @@ use places::Place;
 use table::BackingPages;
 use table::PageRange;
 ghost use mathlib.Core.Path.{_≡_};
-ghost use Prim.Native.Nat.{_+_, _≤_, _<_};
+ghost use Prim.Native.Nat.{_+_, _<_};
 ghost use lib.ListN.{length, set};
 ghost use Rattle.table.specs.Table.{numberOf};
 ghost use Rattle.places.specs.Places.{placeAt};

@@ -1,5 +1,5 @@
-// THE TEST OF SOUNDNESS: whether a store is sound, for any value of its type. The store is put into a sheet on the way, and its ranges and frames are chained, for
-// those who work on it then.
+// THE TEST OF SOUNDNESS: whether a store is sound, for any value of its type. A store is put into a sheet first; the ranges and frames of a sound one are chained, for those
+// who work on it then.
 use store::Store;
 ghost use mathlib.Core.Path.{_≡_};
 ghost use mathlib.Core.Bool.{true};
@@ -78,7 +78,8 @@ fn tests(
     false
 }
 
-// "What a sound store is", as one test: of a store in its sheet, `rows` being what `sound_ranges::rows` said of its table. The ranges and frames of a sound one are chained then.
+// "What a sound store is", as one test: of a store in its sheet, `rows` being what `sound_ranges::rows` said of its table. "1 to 1,024 frames" is looked at here, and "at most
+// 512 ranges" once more, so that nothing is asked of `rows`. The ranges and frames of a sound store are chained then.
 pub fn examine(
     rows: bool,
     sheet: &[u64; 2579],

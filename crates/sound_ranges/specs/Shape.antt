@@ -1,12 +1,11 @@
 -- The test of each range by itself and behind the one before it, in one pass. The kinds of backings and the frames of `Single` ranges are looked at later.
 use mathlib.Core.Path.{_≡_, refl}
-use mathlib.Core.Bool.{Bool, true, false, _&&_, false≢true}
+use mathlib.Core.Bool.{Bool, true, false, _&&_}
 use mathlib.Core.List.{List, [], _∷_}
 use Prim.Native.Nat.{ℕ, _+_, _≤_, _<_}
 use lib.Dec.{ltb, leb, eqb}
 use lib.ListN.{length, take, drop, getD}
-use native.Mathlib.Omega.{arith}
-use borrow.Author.Tests.{eqb-true, leb-true, lt-ltb, ltb-true}
+use borrow.Author.Tests.{leb-true, lt-ltb}
 use Rattle.table.specs.declared.PageRange.{PageRange}
 use Rattle.table.specs.declared.BackingPages.{BackingPages}
 use Rattle.table.specs.declared.BackingPages.the-variants.{Nothing, Single, Many}
@@ -14,7 +13,7 @@ use Rattle.lists.specs.Test.{by-test, and-left, and-right}
 use Rattle.lists.specs.Every.{every}
 use Rattle.lists.specs.Rest.{left-cons, left-end}
 use Rattle.ranges.specs.Range.{from, upto}
-use Rattle.table.specs.Table.{numberOf, rangeOf, rangesOf, zeroRange}
+use Rattle.table.specs.Table.{rangeOf, rangesOf, zeroRange}
 use Rattle.store.specs.Abs.{liveBit}
 use Rattle.store.specs.Sound.{rising?}
 

@@ -114,7 +114,7 @@ pub fn rows(ranges: [PageRange; 512], count: usize, live: u32, sheet: &mut [u64;
 
 // Whether the backing fits the range's length and offset, by tag and span: "`Nothing` stands only in unused slots"; "A `Single` range has length 1 and offset 0"; "A `Many`
 // range has offset + length at most 1,048,576".
-pub fn fits(tag: u64, span: u64) -> bool
+fn fits(tag: u64, span: u64) -> bool
     ensures { λ q. ⌜ q ≡ fitting? tag span ⌝ }
 {
     let n = tag % 4294967296;

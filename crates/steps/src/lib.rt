@@ -164,7 +164,7 @@ fn in_range(sheet: &[u64; 2579], r: PageRange, g: usize) -> PageAt
 }
 
 // Page g of the line.
-pub fn locate(sheet: &[u64; 2579], g: usize) -> PageAt
+fn locate(sheet: &[u64; 2579], g: usize) -> PageAt
     requires { ⌜ (Table (storeOf (now sheet) .ranges) (storeOf (now sheet) .count)) × (storeOf (now sheet) .frames ≤ 1024) × (g < 1000000000000000000) ⌝ }
     ensures { λ q. ⌜ q ≡ located (storeOf (now (sheet .entry))) g ⌝ }
 {

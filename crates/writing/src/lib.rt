@@ -47,7 +47,8 @@ fn wide(x: u16) -> usize {
     x as usize
 }
 
-// One more than the frame that stands at this backing and index, if it is among the first eight of the chain that this place had when the call began; else 0. Nothing is asked of the links: a frame that stands there now is the only one.
+// One more than the frame that stands at this backing and index, if it is among the first eight of the chain that this place had when the call began; else 0. Nothing is asked
+// of the links: a frame that stands there now is the only one.
 fn guess(sheet: &[u64; 2579], links: &[u16; 2048], backing: u32, index: u32) -> usize
     requires { ⌜ (storeOf (now sheet) .frames ≤ 1024) × Lone (storeOf (now sheet)) ⌝ }
     ensures { λ r. ⌜ (0 < r → At (r - 1) ≡ frameAt backing index 0 (take (storeOf (now (sheet .entry)) .frames) (storeOf (now (sheet .entry)) .places))) ⌝ }

@@ -1,6 +1,5 @@
 -- `sound_ranges::fits` meets its contract.
 use mathlib.Core.Path.{sym}
-use native.Mathlib.Omega.{arith}
 use borrow.Author.Needs.{needs}
 use Rattle.sound_ranges.specs.Fit.{fitting-many, fitting-other}
 use Rattle.sound_ranges.proofs.fits.Statement.{statement}

@@ -10,7 +10,6 @@ use Rattle.lists.specs.Every.{none-both}
 use Rattle.table.specs.Table.{zeroRange}
 use Rattle.sheet.specs.Edits.{Narrow}
 use Rattle.sheet.specs.Load.{Blanked, Kept, Rows, blanked-next, kept-same, rows-apart, rows-next, rows-none}
-use Rattle.sheet.specs.Sheet.{tagOf}
 use Rattle.sound_ranges.specs.Slots.{loaded, rest-next, rest-wrong, slots?, slots-end, slots-rest, used-fails, used-turn}
 use borrow.Author.Needs.{needs}
 use native.Mathlib.Omega.{arith}
