@@ -235,40 +235,61 @@ fn three_aged(pool: &mut [u8], order: u8, mode: u8) {
     aged(pool, 1024, 510, order, mode);
 }
 
-// Soundness where one backing is held by many ranges, and again when the record that it came from is dropped.
-fn one_backing(pool: &mut [u8], frames: usize, cuts: usize, order: u8, mode: u8)
-    requires { ⌜ (frames ≤ 1024) × (cuts ≤ 255) × (cuts < frames) ⌝ }
-{
-    let s = fills::shared_by_many(pool, frames, cuts, order);
-    measure(1, s, pool, frames, 8, mode);
+// Soundness where many ranges hold one backing, the drop of the record that it came from, and soundness without that record.
+fn source_dropped(s: Store, pool: &mut [u8], mode: u8) {
+    measure(1, s, pool, 1, 1, mode);
+    measure(10, s, pool, 1, 1, mode);
     let r = calls::drop_object(s, 0);
     let t = r.store;
-    measure(1, t, pool, frames, 8, mode);
+    measure(1, t, pool, 1, 1, mode);
 }
 
-fn two_backings(pool: &mut [u8], order: u8, mode: u8) {
-    one_backing(pool, 300, 19, order, mode);
-    one_backing(pool, 1024, 255, order, mode);
+fn cut_up(pool: &mut [u8], frames: usize, cuts: usize, order: u8, mode: u8)
+    requires { ⌜ (frames ≤ 1024) × (0 < cuts) × (cuts ≤ 255) × (cuts < frames) ⌝ }
+{
+    let s = fills::shared_by_many(pool, frames, cuts, order);
+    source_dropped(s, pool, mode);
 }
 
-fn hard_cases(pool: &mut [u8], mode: u8) {
+fn scattered(pool: &mut [u8], pieces: usize, mode: u8)
+    requires { ⌜ pieces ≤ 512 ⌝ }
+{
+    let s = fills::scattered_pieces(pool, pieces);
+    source_dropped(s, pool, mode);
+}
+
+fn four_cut_up(pool: &mut [u8], order: u8, mode: u8) {
+    cut_up(pool, 300, 19, order, mode);
+    cut_up(pool, 1024, 19, order, mode);
+    cut_up(pool, 1024, 100, order, mode);
+    cut_up(pool, 1024, 255, order, mode);
+}
+
+fn all_aged(pool: &mut [u8], mode: u8) {
     io::write_all(1, b"# frames scattered\n");
     three_aged(pool, 1, mode);
     io::write_all(1, b"# frames rise\n");
     three_aged(pool, 2, mode);
+}
+
+fn all_of_one_backing(pool: &mut [u8], mode: u8) {
     io::write_all(1, b"# one backing, frames fall\n");
-    two_backings(pool, 0, mode);
+    four_cut_up(pool, 0, mode);
     io::write_all(1, b"# one backing, frames scattered\n");
-    two_backings(pool, 1, mode);
+    four_cut_up(pool, 1, mode);
     io::write_all(1, b"# one backing, frames rise\n");
-    two_backings(pool, 2, mode);
+    four_cut_up(pool, 2, mode);
+    io::write_all(1, b"# one backing, pieces scattered\n");
+    scattered(pool, 150, mode);
+    scattered(pool, 500, mode);
 }
 
 fn table(pool: &mut [u8], mode: u8) {
     io::write_all(1, b"# fills\n");
     nine_fills(pool, mode);
     hand_overs(pool, mode);
-    hard_cases(pool, mode);
+    all_aged(pool, mode);
+    all_of_one_backing(pool, mode);
 }
 
 // A few turns of each work, at small fills and at one full of ranges.
@@ -281,9 +302,10 @@ fn few_handed(pool: &mut [u8], mode: u8) {
 fn few_aged(pool: &mut [u8], mode: u8) {
     aged(pool, 64, 8, 1, mode);
     aged(pool, 64, 8, 2, mode);
-    one_backing(pool, 64, 19, 0, mode);
-    one_backing(pool, 64, 19, 1, mode);
-    one_backing(pool, 64, 19, 2, mode);
+    cut_up(pool, 64, 19, 0, mode);
+    cut_up(pool, 64, 19, 1, mode);
+    cut_up(pool, 64, 19, 2, mode);
+    scattered(pool, 20, mode);
 }
 
 fn tried(pool: &mut [u8], mode: u8) {
@@ -334,7 +356,52 @@ fn growth(pool: &mut [u8], least: usize, many: usize, mode: u8)
     }
 }
 
+// One backing, cut up in half as many ranges as frames, or in as many scattered pieces: calls with the record that it came from, and soundness without.
+fn works_of_one_backing(s: Store, pool: &mut [u8], dropped: bool, mode: u8) {
+    if dropped {
+        let r = calls::drop_object(s, 0);
+        let t = r.store;
+        measure(1, t, pool, 1, 1, mode);
+        return;
+    }
+    measure(1, s, pool, 1, 1, mode);
+    measure(5, s, pool, 1, 1, mode);
+    measured(8, 12, s, pool, 1, 1, mode);
+    measured(13, 15, s, pool, 1, 1, mode);
+}
+
+fn growth_cut_up(pool: &mut [u8], dropped: bool, mode: u8) {
+    let mut k: usize = 0;
+    while k < 7 {
+        let n = halved(1012, k, 16);
+        let s = fills::shared_by_many(pool, n, n / 4, 1);
+        works_of_one_backing(s, pool, dropped, mode);
+        k += 1;
+    }
+}
+
+fn growth_scattered(pool: &mut [u8], dropped: bool, mode: u8) {
+    let mut k: usize = 0;
+    while k < 7 {
+        let s = fills::scattered_pieces(pool, halved(500, k, 8));
+        works_of_one_backing(s, pool, dropped, mode);
+        k += 1;
+    }
+}
+
+fn grown_of_one_backing(pool: &mut [u8], mode: u8) {
+    io::write_all(1, b"# one backing cut up\n");
+    growth_cut_up(pool, false, mode);
+    io::write_all(1, b"# one backing cut up, source dropped\n");
+    growth_cut_up(pool, true, mode);
+    io::write_all(1, b"# pieces scattered\n");
+    growth_scattered(pool, false, mode);
+    io::write_all(1, b"# pieces scattered, source dropped\n");
+    growth_scattered(pool, true, mode);
+}
+
 fn grown(pool: &mut [u8], mode: u8) {
+    grown_of_one_backing(pool, mode);
     io::write_all(1, b"# frames and ranges\n");
     growth(pool, 16, 508, mode);
     io::write_all(1, b"# frames\n");

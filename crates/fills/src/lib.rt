@@ -227,31 +227,51 @@ pub fn crowded(s: Store, pool: &mut [u8], frames: usize, own: usize) -> Store
 }
 
 // ---- one backing held by many ranges
-// One byte written to each second page of record 1, from page 1 on: each is cut out as a range of its own.
-fn cut_up(s: Store, pool: &mut [u8], cuts: usize) -> Store
-    requires { ⌜ cuts ≤ 512 ⌝ }
+// One byte written to each `step`th page of record 1, from page 1 on: each is cut out as a range of its own.
+fn cut_up(s: Store, pool: &mut [u8], cuts: usize, step: usize) -> Store
+    requires { ⌜ (cuts ≤ 512) × (step ≤ 1024) ⌝ }
 {
     let one = [1u8; 1];
     let mut t = s;
+    let mut page: usize = 1;
     let mut k: usize = 0;
     while k < cuts {
-        let r = access::write(t, pool, 1, (2 * k + 1) * PageNumber::PAGE_SIZE, &one);
+        let r = access::write(t, pool, 1, page * PageNumber::PAGE_SIZE, &one);
         t = r.store;
+        page += step;
         k += 1;
     }
     t
 }
 
-// Record 0 has one range, its pages added in the order named; record 1 is a copy of it, cut up: 2 × cuts + 2 ranges, of which cuts + 2 hold one backing.
+// Record 0 has one range, its pages added in the order named; record 1 is a copy of it, cut up evenly: 2 × cuts + 2 ranges, of which cuts + 2 hold one backing.
 pub fn shared_by_many(pool: &mut [u8], frames: usize, cuts: usize, order: u8) -> Store
-    requires { ⌜ (frames ≤ 1024) × (cuts ≤ 255) × (cuts < frames) ⌝ }
+    requires { ⌜ (frames ≤ 1024) × (0 < cuts) × (cuts ≤ 255) × (cuts < frames) ⌝ }
 {
     let s = empty();
     let n = frames - cuts;
     let t = range_added(s, pool, 0, 0, n, order);
     let r = copies::copy_ranges(t, pool, 0, 0, 1, 0, n * PageNumber::PAGE_SIZE);
     let u = r.store;
-    cut_up(u, pool, cuts)
+    cut_up(u, pool, cuts, at_most(n / cuts, 1024))
+}
+
+// Record 0 has one range of 2 × pieces pages; each second one is copied to a page of record 1, in a scattered order: so many ranges hold one backing, and neither pages nor
+// slots tell where an index of it is.
+pub fn scattered_pieces(pool: &mut [u8], pieces: usize) -> Store
+    requires { ⌜ pieces ≤ 512 ⌝ }
+{
+    let s = empty();
+    let mut t = run_added(s, pool, 0, 0, 2 * pieces, 1);
+    let mut k: usize = 0;
+    while k < pieces {
+        let from = 2 * k * PageNumber::PAGE_SIZE;
+        let to = k * 337 % 1021 * PageNumber::PAGE_SIZE;
+        let r = copies::copy_ranges(t, pool, 0, from, 1, to, PageNumber::PAGE_SIZE);
+        t = r.store;
+        k += 1;
+    }
+    t
 }
 
 // ---- records

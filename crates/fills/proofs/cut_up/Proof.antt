@@ -1,16 +1,16 @@
--- `fills::cut_up` meets its contract. The loop's invariant bounds the cuts.
+-- `fills::cut_up` meets its contract. The loop's invariant bounds the cuts and the page.
 use mathlib.Core.Path.{_≡_}
-use Prim.Native.Nat.{_-_, _≤_}
+use Prim.Native.Nat.{_+_, _*_, _-_, _≤_}
 use lib.ListN.{length}
 use borrow.Author.Needs.{needs}
 use Rattle.fills.proofs.cut_up.Statement.{statement}
 use Rattle.fills.proofs.cut_up.Tie as tie
 
 abbrev Inv-loop : tie.InvT-loop
-Inv-loop pool₀ cuts one t₀ k₀ pool t k = (length pool ≡ length pool₀) × (k ≤ cuts)
+Inv-loop pool₀ cuts step one t₀ page₀ k₀ pool t page k = (length pool ≡ length pool₀) × (k ≤ cuts) × (page ≤ 1024 * k + 1)
 
 abbrev μ-loop : tie.MeasureT-loop
-μ-loop pool₀ cuts one t₀ k₀ pool t k = cuts - k
+μ-loop pool₀ cuts step one t₀ page₀ k₀ pool t page k = cuts - k
 
 loop-holds : tie.Need-loop-holds Inv-loop μ-loop
 loop-holds c = search needs
@@ -18,17 +18,14 @@ loop-holds c = search needs
 mul-write : tie.Need-mul-write Inv-loop μ-loop
 mul-write c = search needs
 
-add-write : tie.Need-add-write Inv-loop μ-loop
-add-write c = search needs
-
-mul-write-2 : tie.Need-mul-write-2 Inv-loop μ-loop
-mul-write-2 c = search needs
-
 slice-aggregate-write : tie.Need-slice-aggregate-write Inv-loop μ-loop
 slice-aggregate-write c = search needs
 
 write-requires : tie.Need-write-requires Inv-loop μ-loop
 write-requires c κs = search needs
+
+add-page : tie.Need-add-page Inv-loop μ-loop
+add-page c = search needs
 
 add-k : tie.Need-add-k Inv-loop μ-loop
 add-k c = search needs
@@ -53,10 +50,9 @@ cut-up-spec =
     μ-loop
     loop-holds
     mul-write
-    add-write
-    mul-write-2
     slice-aggregate-write
     write-requires
+    add-page
     add-k
     loop-less
     loop-again
