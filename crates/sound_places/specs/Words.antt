@@ -54,15 +54,15 @@ pub record Ranged (w h : List ℕ) (n : ℕ) : Type 0 where
   pub chained : Chained (keyed (tagsOf w)) n (take 1024 h) (drop 1024 h)
   pub short : (i : ℕ) → i < n → Short w i
 
--- the window that was found last, its first spot and the one behind its last, and a link to a range
+-- the window that was found last, its first spot and the one behind its last, a link to a range, and any number
 pub record Looked (w h : List ℕ) (n : ℕ) (s : List ℕ) : Type 0 where
-  pub long : length s ≡ 3
+  pub long : length s ≡ 4
   pub seen : Seen (tagsOf w) (spansOf w) (take 1024 h) (getD s 0 0) (getD s 1 0)
   pub low : getD s 2 0 ≤ n
 
 -- the window of the range at link r is noted
 pub record Noted (w : List ℕ) (r : ℕ) (v s : List ℕ) : Type 0 where
-  pub long : length s ≡ 3
+  pub long : length s ≡ 4
   pub first : getD s 0 0 ≡ getD (tagsOf w) (r - 1) 0 % 4294967296 * 4294967296 + getD (spansOf w) (r - 1) 0 / 4294967296
   pub end : getD s 1 0 ≡ getD s 0 0 + getD (spansOf w) (r - 1) 0 % 4294967296
   pub link : getD s 2 0 ≡ getD v 2 0
@@ -150,11 +150,11 @@ module _ (w v : List ℕ) (r : ℕ) (u : 0 < r) (b : r ≤ 512) where
       ≡ (leb first y && ltb y (first + span % 4294967296))
   window-word o y = rw (tag-word w (r - 1) (omega arith), span-word w (r - 1) (omega arith)) (window-bounds tag span (short-word o) y)
 
-  pub noted-set : length v ≡ 3 → Noted w r v (set (set v 0 first) 1 (first + span % 4294967296))
+  pub noted-set : length v ≡ 4 → Noted w r v (set (set v 0 first) 1 (first + span % 4294967296))
   noted-set m =
       let p : getD (set (set v 0 first) 1 (first + span % 4294967296)) 0 0 ≡ first =
       getD-set-other (set v 0 first) 1 0 (first + span % 4294967296) 0 (λ e. omega arith) ∙ getD-set-same v 0 first 0 (omega arith) in
-      let l : length (set v 0 first) ≡ 3 = length-set v 0 first ∙ m in
+      let l : length (set v 0 first) ≡ 4 = length-set v 0 first ∙ m in
       record {
         long = length-set (set v 0 first) 1 (first + span % 4294967296) ∙ l;
         first = p ∙ rw (tag-word w (r - 1) (omega arith), span-word w (r - 1) (omega arith));
@@ -277,7 +277,7 @@ free-word n xs ws i h e q g l u =
     omega arith
 
 -- no frame is chained, and no window was found
-pub seated-none : (w h : List ℕ) (n : ℕ) → Seated w h n 0 (replicate 2048 0) (0 ∷ 0 ∷ 0 ∷ [])
+pub seated-none : (w h : List ℕ) (n : ℕ) → Seated w h n 0 (replicate 2048 0) (0 ∷ 0 ∷ 0 ∷ 4 ∷ [])
 seated-none w h n = record {
   frames = linked-none (chainAt (spotsOf w));
   links = length-replicate {A = ℕ} 2048 0;

@@ -87,30 +87,22 @@ fn guess(lines: &[u64], tags: &[u64], spans: &[u64], count: usize, k: usize, x: 
     0
 }
 
-// The same from link k on: the next of its chain, the range next but one in the table (between pieces of one range stand pages that were cut out), then the guess.
-fn near(
-    lines: &[u64],
-    tags: &[u64],
-    spans: &[u64],
-    next: &[u16],
-    count: usize,
-    k: usize,
-    x: u64,
-) -> usize
-    requires { ⌜ (0 < k) × (k ≤ count) × (count ≤ 512) × Falls (now next) k × (length (now lines) ≡ 512) × (length (now tags) ≡ 512) × (length (now spans) ≡ 512) × (length (now next) ≡ 1024) ⌝ }
+// The same beside link k: the next of its chain, then the range next but one in the table (between pieces of one range stand pages that were cut out).
+fn beside(tags: &[u64], spans: &[u64], next: &[u16], count: usize, k: usize, x: u64) -> usize
+    requires { ⌜ (k ≤ count) × (count ≤ 512) × Falls (now next) k × (length (now tags) ≡ 512) × (length (now spans) ≡ 512) × (length (now next) ≡ 1024) ⌝ }
     ensures { λ r. ⌜ Hit (now (tags .entry)) (now (spans .entry)) x count r ⌝ }
 {
+    if k == 0 {
+        return 0;
+    }
     let low = hit(tags, spans, next[k - 1] as usize, x);
     if 0 < low {
         return low;
     }
     if k + 2 <= count {
-        let high = hit(tags, spans, k + 2, x);
-        if 0 < high {
-            return high;
-        }
+        return hit(tags, spans, k + 2, x);
     }
-    guess(lines, tags, spans, count, k, x)
+    0
 }
 
 // The link to begin at: the hint, if it is one to a range of the spot's backing, else the head of the chain.
@@ -126,7 +118,37 @@ fn begin_at(tags: &[u64], hint: usize, head: usize, x: u64) -> usize
     head
 }
 
-// A link to a range that has the spot x in its window, or 0 where there is none. What is found near the hint is found; else the chain is gone along from its head.
+// A link to a range that has the spot x in its window, or 0 where a quick look finds none: at the head of the chain, beside the hint, then the guess.
+pub fn quick(
+    lines: &[u64],
+    tags: &[u64],
+    spans: &[u64],
+    heads: &[u16],
+    next: &[u16],
+    count: usize,
+    hint: usize,
+    x: u64,
+) -> usize
+    requires { ⌜ Hinted (now tags) (now heads) (now next) count hint × Wide (now lines) (now tags) (now spans) (now heads) (now next) ⌝ }
+    ensures { λ r. ⌜ Hit (now (tags .entry)) (now (spans .entry)) x count r ⌝ }
+{
+    let head = heads[(x / 4294967296 % 1024) as usize] as usize;
+    let first = hit(tags, spans, head, x);
+    if 0 < first {
+        return first;
+    }
+    let k = begin_at(tags, hint, head, x);
+    let r = beside(tags, spans, next, count, k, x);
+    if 0 < r {
+        return r;
+    }
+    if 0 < k {
+        return guess(lines, tags, spans, count, k, x);
+    }
+    0
+}
+
+// A link to a range that has the spot x in its window, or 0 where there is none. What a quick look finds is found; else the chain is gone along from its head.
 pub fn searched(
     lines: &[u64],
     tags: &[u64],
@@ -140,18 +162,35 @@ pub fn searched(
     requires { ⌜ Hinted (now tags) (now heads) (now next) count hint × Wide (now lines) (now tags) (now spans) (now heads) (now next) ⌝ }
     ensures { λ r. ⌜ Met (now (tags .entry)) (now (spans .entry)) (now (heads .entry)) (now (next .entry)) count x r ⌝ }
 {
-    let head = heads[(x / 4294967296 % 1024) as usize] as usize;
-    let first = hit(tags, spans, head, x);
-    if 0 < first {
-        return first;
+    let r = quick(lines, tags, spans, heads, next, count, hint, x);
+    if 0 < r {
+        return r;
     }
-    let k = begin_at(tags, hint, head, x);
+    let head = heads[(x / 4294967296 % 1024) as usize] as usize;
+    window_from(tags, spans, next, head, x)
+}
+
+// The same where nothing was found beside link k: the guess, then the walk.
+fn guessed(
+    lines: &[u64],
+    tags: &[u64],
+    spans: &[u64],
+    heads: &[u16],
+    next: &[u16],
+    count: usize,
+    k: usize,
+    x: u64,
+) -> usize
+    requires { ⌜ Hinted (now tags) (now heads) (now next) count k × Wide (now lines) (now tags) (now spans) (now heads) (now next) ⌝ }
+    ensures { λ r. ⌜ Met (now (tags .entry)) (now (spans .entry)) (now (heads .entry)) (now (next .entry)) count x r ⌝ }
+{
     if 0 < k {
-        let r = near(lines, tags, spans, next, count, k, x);
+        let r = guess(lines, tags, spans, count, k, x);
         if 0 < r {
             return r;
         }
     }
+    let head = heads[(x / 4294967296 % 1024) as usize] as usize;
     window_from(tags, spans, next, head, x)
 }
 
@@ -183,9 +222,9 @@ fn least(a: usize, b: usize) -> usize
 }
 
 // Whether the spot x lies in the window of the range at link r. If so, the window is noted as the one that was found last: `seen` has its first spot, the one behind its last,
-// and a link to search from.
-fn noted(sheet: &[u64], seen: &mut [u64; 3], r: usize, x: u64) -> bool
-    requires { ⌜ (0 < r) × (r ≤ 512) × (length (now sheet) ≡ 2579) × Short (now sheet) (r - 1) × (length (now seen) ≡ 3) ⌝ }
+// a link to search from, and how many far searches are left before marks are made.
+fn noted(sheet: &[u64], seen: &mut [u64; 4], r: usize, x: u64) -> bool
+    requires { ⌜ (0 < r) × (r ≤ 512) × (length (now sheet) ≡ 2579) × Short (now sheet) (r - 1) × (length (now seen) ≡ 4) ⌝ }
     ensures { λ q. ⌜ (q ≡ windowIn (getD (tagsOf (now (sheet .entry))) (r - 1) 0) (getD (spansOf (now (sheet .entry))) (r - 1) 0) (x / 4294967296) (x % 4294967296)) × (q ≡ true → Noted (now (sheet .entry)) r (now (seen .entry)) (now (seen .exit))) × (q ≡ false → now (seen .exit) ≡ now (seen .entry)) ⌝ }
 {
     let span = sheet[512 + (r - 1)];
@@ -199,40 +238,79 @@ fn noted(sheet: &[u64], seen: &mut [u64; 3], r: usize, x: u64) -> bool
     false
 }
 
-// Whether a range has the spot x in its window: the range is searched for from the last that a search found.
-fn sought(sheet: &[u64], holders: &[u16], seen: &mut [u64; 3], count: usize, x: u64) -> bool
-    requires { ⌜ Ranged (now sheet) (now holders) count × Looked (now sheet) (now holders) count (now seen) ⌝ }
+// One less, down to 0.
+fn one_less(n: u64) -> u64 {
+    if 0 < n {
+        return n - 1;
+    }
+    0
+}
+
+// Whether a range has the spot x in its window, nothing having been found beside link k: a far search.
+fn far(sheet: &[u64], holders: &[u16], seen: &mut [u64; 4], count: usize, k: usize, x: u64) -> bool
+    requires { ⌜ Ranged (now sheet) (now holders) count × Looked (now sheet) (now holders) count (now seen) × (k ≤ count) ⌝ }
     ensures { λ q. ⌜ (q ≡ not (allBelow (outsideAt (tagsOf (now (sheet .entry))) (spansOf (now (sheet .entry))) x) (getD (take 1024 (now (holders .entry))) (x / 4294967296 % 1024) 0))) × (q ≡ true → Looked (now (sheet .entry)) (now (holders .entry)) count (now (seen .exit))) ⌝ }
 {
-    let hint = seen[2] as usize;
-    let r = searched(
+    let r = guessed(
         &sheet[0..512],
         &sheet[1024..1536],
         &sheet[512..1024],
         &holders[0..1024],
         &holders[1024..2048],
         count,
-        hint,
+        k,
         x,
     );
     if r == 0 {
         return false;
     }
+    seen[3] = one_less(seen[3]);
     seen[2] = r as u64;
     noted(sheet, seen, r, x)
 }
 
-// Whether a range has the spot x in its window. The window that was found last is looked at first, since frames of one backing often stand in one window; then that of
-// the head of the chain of the spot's backing.
-fn windowed(sheet: &[u64], holders: &[u16], seen: &mut [u64; 3], count: usize, x: u64) -> bool
+// Whether a range has the spot x in its window: the range is searched for from the last that a search found.
+fn sought(sheet: &[u64], holders: &[u16], seen: &mut [u64; 4], count: usize, x: u64) -> bool
     requires { ⌜ Ranged (now sheet) (now holders) count × Looked (now sheet) (now holders) count (now seen) ⌝ }
+    ensures { λ q. ⌜ (q ≡ not (allBelow (outsideAt (tagsOf (now (sheet .entry))) (spansOf (now (sheet .entry))) x) (getD (take 1024 (now (holders .entry))) (x / 4294967296 % 1024) 0))) × (q ≡ true → Looked (now (sheet .entry)) (now (holders .entry)) count (now (seen .exit))) ⌝ }
+{
+    let hint = seen[2] as usize;
+    let head = holders[(x / 4294967296 % 1024) as usize] as usize;
+    let k = begin_at(&sheet[1024..1536], hint, head, x);
+    let r = beside(
+        &sheet[1024..1536],
+        &sheet[512..1024],
+        &holders[1024..2048],
+        count,
+        k,
+        x,
+    );
+    if 0 < r {
+        seen[2] = r as u64;
+        return noted(sheet, seen, r, x);
+    }
+    far(sheet, holders, seen, count, k, x)
+}
+
+// Whether a range has the spot x in its window. The window that was found last is looked at first, since frames of one backing often stand in one window; then that of
+// the range that the guess names, any number being a guess.
+fn windowed(
+    sheet: &[u64],
+    holders: &[u16],
+    guesses: &[u16],
+    seen: &mut [u64; 4],
+    count: usize,
+    at: usize,
+    x: u64,
+) -> bool
+    requires { ⌜ Ranged (now sheet) (now holders) count × Looked (now sheet) (now holders) count (now seen) × (length (now guesses) ≡ 1024) × (at < 1024) ⌝ }
     ensures { λ q. ⌜ (q ≡ not (allBelow (outsideAt (tagsOf (now (sheet .entry))) (spansOf (now (sheet .entry))) x) (getD (take 1024 (now (holders .entry))) (x / 4294967296 % 1024) 0))) × (q ≡ true → Looked (now (sheet .entry)) (now (holders .entry)) count (now (seen .exit))) ⌝ }
 {
     if (seen[0] <= x) & (x < seen[1]) {
         return true;
     }
-    let r = holders[(x / 4294967296 % 1024) as usize] as usize;
-    if 0 < r {
+    let r = guesses[at] as usize;
+    if (0 < r) & (r <= count) {
         if noted(sheet, seen, r, x) {
             return true;
         }
@@ -262,16 +340,28 @@ fn chain_of(x: u64) -> usize
     ((x / 4294967296 * 633 + x % 4294967296) % 1024) as usize
 }
 
+// Where the guess for the spot x stands: by its backing, and by the block of 2^shift indices that it lies in.
+fn guess_at(x: u64, m: u64, shift: u64) -> usize
+    requires { ⌜ (m ≤ 633) × (shift < 64) ⌝ }
+    ensures { λ r. ⌜ r < 1024 ⌝ }
+{
+    ((x / 4294967296 * m + (x % 4294967296 >> shift)) % 1024) as usize
+}
+
 // "Each frame is free or stands in exactly one backing at one index, no two at the same"; "each vector entry lies in the window of some range that holds the vector": of
 // frame f, which is in use. It is put into its chain, before the frames that it is compared with.
 fn seat(
     sheet: &[u64],
     holders: &[u16],
+    guesses: &[u16],
     links: &mut [u16; 2048],
-    seen: &mut [u64; 3],
+    seen: &mut [u64; 4],
     count: usize,
+    m: u64,
+    shift: u64,
     f: usize,
 ) -> bool
+    requires { ⌜ (length (now guesses) ≡ 1024) × (m ≤ 633) × (shift < 64) ⌝ }
     requires { ⌜ (f < 1024) × (0 < getD (spotsOf (now sheet)) f 0 / 4294967296) × Ranged (now sheet) (now holders) count × Seated (now sheet) (now holders) count f (now links) (now seen) ⌝ }
     ensures { λ q. ⌜ (q ≡ placedAt? (now (sheet .entry)) (now (holders .entry)) f) × (q ≡ true → Seated (now (sheet .entry)) (now (holders .entry)) count (f + 1) (now (links .exit)) (now (seen .exit))) ⌝ }
 {
@@ -281,7 +371,8 @@ fn seat(
     links[1024 + f] = k;
     links[h] = (f as u16) + 1;
     if alone(sheet, links, f, k as usize, x) {
-        return windowed(sheet, holders, seen, count, x);
+        let at = guess_at(x, m, shift);
+        return windowed(sheet, holders, guesses, seen, count, at, x);
     }
     false
 }
@@ -290,19 +381,23 @@ fn seat(
 fn seat_frames(
     sheet: &[u64],
     holders: &[u16],
+    guesses: &[u16],
     links: &mut [u16; 2048],
-    seen: &mut [u64; 3],
+    seen: &mut [u64; 4],
     count: usize,
+    m: u64,
+    shift: u64,
     first: usize,
     end: usize,
 ) -> bool
+    requires { ⌜ (length (now guesses) ≡ 1024) × (m ≤ 633) × (shift < 64) ⌝ }
     requires { ⌜ (first ≤ end) × (end ≤ 1024) × Ranged (now sheet) (now holders) count × Seated (now sheet) (now holders) count first (now links) (now seen) × (allBelow (placedAt? (now sheet) (now holders)) first ≡ true) ⌝ }
     ensures { λ q. ⌜ (q ≡ allBelow (placedAt? (now (sheet .entry)) (now (holders .entry))) end) × (q ≡ true → Seated (now (sheet .entry)) (now (holders .entry)) count end (now (links .exit)) (now (seen .exit))) ⌝ }
 {
     let mut f: usize = first;
     while f < end {
         if 0 < sheet[1536 + f] / 4294967296 {
-            if seat(sheet, holders, links, seen, count, f) {
+            if seat(sheet, holders, guesses, links, seen, count, m, shift, f) {
                 f += 1;
                 continue;
             }
@@ -313,7 +408,136 @@ fn seat_frames(
     true
 }
 
-// The same of all frames, which are chained by their places. Words of the map with every bit set are passed over: those frames are free.
+// The same with the heads of the chains as guesses: nothing is left of an index.
+fn seat_heads(
+    sheet: &[u64],
+    holders: &[u16],
+    links: &mut [u16; 2048],
+    seen: &mut [u64; 4],
+    count: usize,
+    first: usize,
+    end: usize,
+) -> bool
+    requires { ⌜ (first ≤ end) × (end ≤ 1024) × Ranged (now sheet) (now holders) count × Seated (now sheet) (now holders) count first (now links) (now seen) × (allBelow (placedAt? (now sheet) (now holders)) first ≡ true) ⌝ }
+    ensures { λ q. ⌜ (q ≡ allBelow (placedAt? (now (sheet .entry)) (now (holders .entry))) end) × (q ≡ true → Seated (now (sheet .entry)) (now (holders .entry)) count end (now (links .exit)) (now (seen .exit))) ⌝ }
+{
+    seat_frames(
+        sheet,
+        holders,
+        &holders[0..1024],
+        links,
+        seen,
+        count,
+        1,
+        63,
+        first,
+        end,
+    )
+}
+
+// The sum of the lengths of the windows.
+fn sum_of(sheet: &[u64], count: usize) -> u64
+    requires { ⌜ (count ≤ 512) × (length (now sheet) ≡ 2579) ⌝ }
+{
+    let mut sum: u64 = 0;
+    let mut i: usize = 0;
+    while i < count {
+        sum += sheet[512 + i] % 4294967296;
+        i += 1;
+    }
+    sum
+}
+
+// The least shift that leaves no more than 2,048 blocks of the sum.
+fn shift_of(sum: u64) -> u64
+    ensures { λ r. ⌜ r < 64 ⌝ }
+{
+    let mut s: u64 = 0;
+    while s < 63 {
+        if sum >> s <= 2048 {
+            return s;
+        }
+        s += 1;
+    }
+    s
+}
+
+// Link r becomes n marks from `from` on, the first mark following the last.
+fn mark(marks: &mut [u16; 1024], r: u16, from: usize, n: usize)
+    requires { ⌜ (from < 1024) × (n ≤ 8589934592) × (length (now marks) ≡ 1024) ⌝ }
+    ensures { λ u. ⌜ length (now (marks .exit)) ≡ 1024 ⌝ }
+{
+    let mut j: usize = 0;
+    while j < n {
+        marks[(from + j) % 1024] = r;
+        j += 1;
+    }
+}
+
+// The marks of range i: one for each block of its window.
+fn mark_range(sheet: &[u64], marks: &mut [u16; 1024], i: usize, shift: u64)
+    requires { ⌜ (i < 512) × (shift < 64) × (length (now sheet) ≡ 2579) × (length (now marks) ≡ 1024) ⌝ }
+    ensures { λ u. ⌜ length (now (marks .exit)) ≡ 1024 ⌝ }
+{
+    let b = sheet[1024 + i] % 4294967296;
+    let span = sheet[512 + i];
+    let offset = span / 4294967296;
+    let length = span % 4294967296;
+    if 0 < length {
+        let first = offset >> shift;
+        let last = (offset + length - 1) >> shift;
+        let from = guess_at(b * 4294967296 + offset, 633, shift);
+        mark(marks, (i as u16) + 1, from, (last - first + 1) as usize);
+    }
+}
+
+// The marks of every range that has company in its chain.
+fn mark_all(sheet: &[u64], holders: &[u16], marks: &mut [u16; 1024], count: usize, shift: u64)
+    requires { ⌜ (count ≤ 512) × (shift < 64) × (length (now sheet) ≡ 2579) × (length (now holders) ≡ 2048) × (length (now marks) ≡ 1024) ⌝ }
+    ensures { λ u. ⌜ length (now (marks .exit)) ≡ 1024 ⌝ }
+{
+    let mut i: usize = 0;
+    while i < count {
+        let h = (sheet[1024 + i] % 1024) as usize;
+        if (holders[h] != (i as u16) + 1) | (0 < holders[1024 + i]) {
+            mark_range(sheet, marks, i, shift);
+        }
+        i += 1;
+    }
+}
+
+// The same of the frames from `first` on, with marks as guesses.
+fn seat_rest(
+    sheet: &[u64],
+    holders: &[u16],
+    links: &mut [u16; 2048],
+    seen: &mut [u64; 4],
+    count: usize,
+    frames: usize,
+    first: usize,
+) -> bool
+    requires { ⌜ (first ≤ frames) × (frames ≤ 1024) × Ranged (now sheet) (now holders) count × Seated (now sheet) (now holders) count first (now links) (now seen) × (allBelow (placedAt? (now sheet) (now holders)) first ≡ true) ⌝ }
+    ensures { λ q. ⌜ (q ≡ allBelow (placedAt? (now (sheet .entry)) (now (holders .entry))) frames) × (q ≡ true → Seated (now (sheet .entry)) (now (holders .entry)) count frames (now (links .exit)) (now (seen .exit))) ⌝ }
+{
+    let mut marks = [0u16; 1024];
+    let shift = shift_of(sum_of(sheet, count));
+    mark_all(sheet, holders, &mut marks, count, shift);
+    seat_frames(
+        sheet,
+        holders,
+        &marks,
+        links,
+        seen,
+        count,
+        633,
+        shift,
+        first,
+        frames,
+    )
+}
+
+// The same of all frames, which are chained by their places. Words of the map with every bit set are passed over: those frames are free. After four
+// far searches the marks are made.
 pub fn seat_all(
     free: &[u64],
     sheet: &[u64],
@@ -325,12 +549,16 @@ pub fn seat_all(
     requires { ⌜ (frames ≤ 1024) × Ranged (now sheet) (now holders) count × (now links ≡ replicate 2048 0) × (length (now free) ≡ 16) × (allBelow (kept? frames (spotsOf (now sheet)) (now free)) 1024 ≡ true) ⌝ }
     ensures { λ q. ⌜ (q ≡ allBelow (placedAt? (now (sheet .entry)) (now (holders .entry))) frames) × (q ≡ true → SpotChains (spotsOf (now (sheet .entry))) frames (take 1024 (now (links .exit))) (drop 1024 (now (links .exit)))) × (q ≡ true → length (now (links .exit)) ≡ 2048) ⌝ }
 {
-    let mut seen = [0u64; 3];
+    let mut seen = [0u64; 4];
+    seen[3] = 4;
     let mut i: usize = 0;
     while i * 64 < frames {
+        if seen[3] == 0 {
+            return seat_rest(sheet, holders, links, &mut seen, count, frames, i * 64);
+        }
         if free[i] < 18446744073709551615 {
             let end = least(i * 64 + 64, frames);
-            if seat_frames(sheet, holders, links, &mut seen, count, i * 64, end) {
+            if seat_heads(sheet, holders, links, &mut seen, count, i * 64, end) {
                 i += 1;
                 continue;
             }

@@ -49,33 +49,38 @@ element-write-links-2 c = search needs
 
 cast-alone : tie.Need-cast-alone
 cast-alone c =
-    let a = c .before .before .before .before .before .before .args in
-    let p = c .before .before .before .before .before .before .pre in
+    let a = c .before .before .before .before .before .before .before .args in
+    let p = c .before .before .before .before .before .before .before .pre .1 in
     let h = c .before .before .chain-of in
     record { fits = omega (arith, p .0, put-low (a .sheet .now) (a .links .now) (a .f) (p .0) (p .1) (p .3 .links) (p .3 .frames) (h .result) (h .ensures)) }
 
 alone-requires : tie.Need-alone-requires
 alone-requires c κs =
-    let a = c .before .before .before .before .before .before .args in
-    let p = c .before .before .before .before .before .before .pre in
+    let a = c .before .before .before .before .before .before .before .args in
+    let p = c .before .before .before .before .before .before .before .pre .1 in
     let h = c .before .before .chain-of in
     let e = spot-word (a .sheet .now) (a .f) (p .0) in
     (p .0, p .2 .long, sym e, omega (arith, p .1, e), put-walk (a .sheet .now) (a .links .now) (a .f) (p .0) (p .1) (p .3 .links) (p .3 .frames) (h .result) (h .ensures))
+
+guess-at-requires : tie.Need-guess-at-requires
+guess-at-requires c κs = search needs
 
 windowed-requires : tie.Need-windowed-requires
 windowed-requires c κs = search needs
 
 returns : tie.Need-returns
 returns c =
-    let a = c .before .before .before .before .before .before .before .before .before .before .args in
-    let p = c .before .before .before .before .before .before .before .before .before .before .pre in
-    let h = c .before .before .before .before .before .before .chain-of in
-    (placed-alone (a .sheet .now) (a .holders .now) (a .f) (p .0) (p .1) (c .windowed .result) (sym (c .before .before .if1 .taken) ∙ c .before .before .before .alone .ensures) (c .windowed .ensures .0), λ q. record { frames = put-chains (a .sheet .now) (a .links .now) (a .f) (p .0) (p .1) (p .3 .links) (p .3 .frames) (h .result) (h .ensures); links = simp length-set (p .3 .links); looked = c .windowed .ensures .1 q })
+    let a = c .before .before .before .before .before .before .before .before .before .before .before .before .args in
+    let p = c .before .before .before .before .before .before .before .before .before .before .before .before .pre .1 in
+    let h = c .before .before .before .before .before .before .before .chain-of in (
+      placed-alone (a .sheet .now) (a .holders .now) (a .f) (p .0) (p .1) (c .windowed .result) (sym (c .before .before .before .if1 .taken) ∙ c .before .before .before .before .alone .ensures) (c .windowed .ensures .0),
+      λ q. record { frames = put-chains (a .sheet .now) (a .links .now) (a .f) (p .0) (p .1) (p .3 .links) (p .3 .frames) (h .result) (h .ensures); links = simp length-set (p .3 .links); looked = c .windowed .ensures .1 q },
+    )
 
 returns-2 : tie.Need-returns-2
 returns-2 c =
-    let a = c .before .before .before .before .before .before .before .before .args in
-    let p = c .before .before .before .before .before .before .before .before .pre in
+    let a = c .before .before .before .before .before .before .before .before .before .args in
+    let p = c .before .before .before .before .before .before .before .before .before .pre .1 in
     let h = c .before .before .before .before .chain-of in
     (placed-shared (a .sheet .now) (a .holders .now) (a .f) (p .0) (sym (c .if1 .left) ∙ c .before .alone .ensures), λ e. absurd (false≢true e))
 
@@ -98,6 +103,7 @@ seat-spec =
     element-write-links-2
     cast-alone
     alone-requires
+    guess-at-requires
     windowed-requires
     returns
     returns-2)

@@ -2,11 +2,11 @@
 use mathlib.Core.Path.{_≡_, sym, _∙_}
 use mathlib.Core.Bool.{true, false≢true}
 use Prim.Native.Nat.{_+_, _-_, _*_, _≤_, _<_, min}
-use native.Mathlib.Omega.{arith}
 use lib.ListN.{getD}
-use borrow.Author.Needs.{needs}
 use Rattle.lists.specs.Every.{allBelow, below-zero}
 use Rattle.sound_places.specs.Words.{below-low, free-word, placed-free, placedAt?, seated-free, seated-none, spotsOf, Seated}
+use borrow.Author.Needs.{needs}
+use native.Mathlib.Omega.{arith}
 use Rattle.sound_places.proofs.seat_all.Statement.{statement}
 use Rattle.sound_places.proofs.seat_all.Tie as tie
 
@@ -15,6 +15,9 @@ Inv-loop free sheet holders links₀ count frames seen₀ i₀ links seen i = (i
 
 abbrev μ-loop : tie.MeasureT-loop
 μ-loop free sheet holders links₀ count frames seen₀ i₀ links seen i = 16 - i
+
+array-write-seen : tie.Need-array-write-seen Inv-loop μ-loop
+array-write-seen c = search needs
 
 loop-holds : tie.Need-loop-holds Inv-loop μ-loop
 loop-holds c =
@@ -28,11 +31,30 @@ loop-holds c =
 mul-loop : tie.Need-mul-loop Inv-loop μ-loop
 mul-loop c = search needs
 
-mul-if1 : tie.Need-mul-if1 Inv-loop μ-loop
-mul-if1 c = search needs
+array-read-if1 : tie.Need-array-read-if1 Inv-loop μ-loop
+array-read-if1 c = search needs
 
-shared-slice-read-if1 : tie.Need-shared-slice-read-if1 Inv-loop μ-loop
-shared-slice-read-if1 c = search needs
+mul-seat-rest : tie.Need-mul-seat-rest Inv-loop μ-loop
+mul-seat-rest c = search needs
+
+seat-rest-requires : tie.Need-seat-rest-requires Inv-loop μ-loop
+seat-rest-requires c κs =
+    let a = c .before .before .before .before .before .before .before .before .args in
+    let p = c .before .before .before .before .before .before .before .before .pre in
+    let l = c .before .before .before .before .loop in
+    let e : min (l .i * 64) (a .frames) ≡ l .i * 64 = omega arith in
+    (omega arith, p .0, p .1, rw e at (l .inv .1), rw e at (l .inv .2))
+
+returns : tie.Need-returns Inv-loop μ-loop
+returns c =
+    let s = c .seat-rest .ensures in
+    (s .0, λ q. s .1 q .frames, λ q. s .1 q .links)
+
+mul-if2 : tie.Need-mul-if2 Inv-loop μ-loop
+mul-if2 c = search needs
+
+shared-slice-read-if2 : tie.Need-shared-slice-read-if2 Inv-loop μ-loop
+shared-slice-read-if2 c = search needs
 
 mul-least : tie.Need-mul-least Inv-loop μ-loop
 mul-least c = search needs
@@ -43,14 +65,14 @@ add-least c = search needs
 least-requires : tie.Need-least-requires Inv-loop μ-loop
 least-requires c κs = search needs
 
-mul-seat-frames : tie.Need-mul-seat-frames Inv-loop μ-loop
-mul-seat-frames c = search needs
+mul-seat-heads : tie.Need-mul-seat-heads Inv-loop μ-loop
+mul-seat-heads c = search needs
 
-seat-frames-requires : tie.Need-seat-frames-requires Inv-loop μ-loop
-seat-frames-requires c κs =
-    let a = c .before .before .before .before .before .before .before .before .before .before .args in
-    let p = c .before .before .before .before .before .before .before .before .before .before .pre in
-    let l = c .before .before .before .before .before .before .loop in
+seat-heads-requires : tie.Need-seat-heads-requires Inv-loop μ-loop
+seat-heads-requires c κs =
+    let a = c .before .before .before .before .before .before .before .before .before .before .before .args in
+    let p = c .before .before .before .before .before .before .before .before .before .before .before .pre in
+    let l = c .before .before .before .before .before .before .before .loop in
     let r = c .before .before .least .ensures in
     let e : min (l .i * 64) (a .frames) ≡ l .i * 64 = omega arith in
     (omega arith, omega (arith, p .0), p .1, rw e at (l .inv .1), rw e at (l .inv .2))
@@ -63,20 +85,20 @@ loop-less c = search needs
 
 loop-again : tie.Need-loop-again Inv-loop μ-loop
 loop-again c =
-    let a = c .before .before .before .before .before .before .before .before .before .before .before .before .args in
-    let l = c .before .before .before .before .before .before .before .before .loop in
+    let a = c .before .before .before .before .before .before .before .before .before .before .before .before .before .args in
+    let l = c .before .before .before .before .before .before .before .before .before .loop in
     let r = c .before .before .before .before .least .ensures in
-    let s = c .before .seat-frames .ensures in
+    let s = c .before .seat-heads .ensures in
     let e : min ((l .i + 1) * 64) (a .frames) ≡ c .before .before .before .before .least .result = omega arith in
-    (omega arith, rw e (s .1 (c .if2 .taken)), rw e (sym (s .0) ∙ c .if2 .taken))
+    (omega arith, rw e (s .1 (c .if3 .taken)), rw e (sym (s .0) ∙ c .if3 .taken))
 
-returns : tie.Need-returns Inv-loop μ-loop
-returns c =
-    let a = c .before .before .before .before .before .before .before .before .before .before .before .before .args in
-    let l = c .before .before .before .before .before .before .before .before .loop in
+returns-2 : tie.Need-returns-2 Inv-loop μ-loop
+returns-2 c =
+    let a = c .before .before .before .before .before .before .before .before .before .before .before .before .before .args in
+    let l = c .before .before .before .before .before .before .before .before .before .loop in
     let r = c .before .before .before .before .least .ensures in
-    let s = c .before .seat-frames .ensures in
-    (below-low (placedAt? (a .sheet .now) (a .holders .now)) (c .before .before .before .before .least .result) (a .frames) (omega arith) (sym (s .0) ∙ c .if2 .left), λ e. absurd (false≢true e), λ e. absurd (false≢true e))
+    let s = c .before .seat-heads .ensures in
+    (below-low (placedAt? (a .sheet .now) (a .holders .now)) (c .before .before .before .before .least .result) (a .frames) (omega arith) (sym (s .0) ∙ c .if3 .left), λ e. absurd (false≢true e), λ e. absurd (false≢true e))
 
 add-i-2 : tie.Need-add-i-2 Inv-loop μ-loop
 add-i-2 c = search needs
@@ -86,12 +108,12 @@ loop-less-2 c = search needs
 
 loop-again-2 : tie.Need-loop-again-2 Inv-loop μ-loop
 loop-again-2 c =
-    let a = c .before .before .before .before .before .before .before .args in
-    let p = c .before .before .before .before .before .before .before .pre in
-    let l = c .before .before .before .loop in
+    let a = c .before .before .before .before .before .before .before .before .args in
+    let p = c .before .before .before .before .before .before .before .before .pre in
+    let l = c .before .before .before .before .loop in
     let e : min (l .i * 64) (a .frames) ≡ l .i * 64 = omega arith in
     let b : l .i * 64 ≤ min ((l .i + 1) * 64) (a .frames) = omega arith in
-    let f : getD (a .free .now) (l .i) 0 < 18446744073709551616 = omega (arith, c .before .before .before .before .before .before .shared-slice-known .given (l .i)) in
+    let f : getD (a .free .now) (l .i) 0 < 18446744073709551616 = omega (arith, c .before .before .before .before .before .before .before .shared-slice-known .given (l .i)) in
     let v : getD (a .free .now) (l .i) 0 ≡ 18446744073709551615 = omega (arith, f) in
     let o = free-word (a .frames) (spotsOf (a .sheet .now)) (a .free .now) (l .i) (omega arith) v (p .4) in (
       omega arith,
@@ -99,8 +121,8 @@ loop-again-2 c =
       placed-free (a .sheet .now) (a .holders .now) (l .i * 64) (min ((l .i + 1) * 64) (a .frames)) b o (rw e at (l .inv .2)),
     )
 
-returns-2 : tie.Need-returns-2 Inv-loop μ-loop
-returns-2 c =
+returns-3 : tie.Need-returns-3 Inv-loop μ-loop
+returns-3 c =
     let a = c .before .before .before .before .before .args in
     let l = c .before .loop in
     let e : min (l .i * 64) (a .frames) ≡ a .frames = omega arith in
@@ -113,20 +135,25 @@ seat-all-spec =
     (tie.spec
     Inv-loop
     μ-loop
+    array-write-seen
     loop-holds
     mul-loop
-    mul-if1
-    shared-slice-read-if1
+    array-read-if1
+    mul-seat-rest
+    seat-rest-requires
+    returns
+    mul-if2
+    shared-slice-read-if2
     mul-least
     add-least
     least-requires
-    mul-seat-frames
-    seat-frames-requires
+    mul-seat-heads
+    seat-heads-requires
     add-i
     loop-less
     loop-again
-    returns
+    returns-2
     add-i-2
     loop-less-2
     loop-again-2
-    returns-2)
+    returns-3)
