@@ -148,29 +148,7 @@ pub fn quick(
     0
 }
 
-// A link to a range that has the spot x in its window, or 0 where there is none. What a quick look finds is found; else the chain is gone along from its head.
-pub fn searched(
-    lines: &[u64],
-    tags: &[u64],
-    spans: &[u64],
-    heads: &[u16],
-    next: &[u16],
-    count: usize,
-    hint: usize,
-    x: u64,
-) -> usize
-    requires { ⌜ Hinted (now tags) (now heads) (now next) count hint × Wide (now lines) (now tags) (now spans) (now heads) (now next) ⌝ }
-    ensures { λ r. ⌜ Met (now (tags .entry)) (now (spans .entry)) (now (heads .entry)) (now (next .entry)) count x r ⌝ }
-{
-    let r = quick(lines, tags, spans, heads, next, count, hint, x);
-    if 0 < r {
-        return r;
-    }
-    let head = heads[(x / 4294967296 % 1024) as usize] as usize;
-    window_from(tags, spans, next, head, x)
-}
-
-// The same where nothing was found beside link k: the guess, then the walk.
+// A link to a range that has the spot x in its window, or 0 where there is none, nothing having been found beside link k: the guess, then along the chain from its head.
 fn guessed(
     lines: &[u64],
     tags: &[u64],

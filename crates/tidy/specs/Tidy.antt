@@ -1,14 +1,17 @@
 -- Trimming and vacating on a sheet: what the columns of its ranges tell, and one turn of each loop over its frames.
 use mathlib.Core.Path.{_≡_, refl, sym, ap, ap₂, _∙_}
-use mathlib.Core.Bool.{not}
-use mathlib.Core.List.{List}
-use Prim.Native.Nat.{ℕ, _+_, _*_, _/_, _%_, _≤_, _<_}
+use mathlib.Core.Bool.{true, not, _&&_, _||_}
+use mathlib.Core.List.{List, [], _∷_}
+use Prim.Native.Nat.{ℕ, zero, suc, _+_, _*_, _/_, _%_, _≤_, _<_}
+use native.Mathlib.Nat.{le-of-suc-le-suc, le-refl, not-suc-le-zero}
 use native.Mathlib.Omega.{arith}
+use lib.Dec.{eqb, leb, ltb}
 use lib.ListN.{drop, length, getD, take}
-use lib.Seq.{set-getD}
+use borrow.Author.Tests.{eqb-true, leb-true, ltb-true}
+use lib.Seq.{getD-take, set-getD}
 use Rattle.places.specs.declared.Place.{Place}
 use Rattle.store.specs.declared.Store.{Store}
-use Rattle.lists.specs.Test.{by-test}
+use Rattle.lists.specs.Test.{and-left, and-right, by-test}
 use Rattle.lists.specs.Every.{allBelow}
 use Rattle.lists.specs.Mapped.{mapped, mapped-none, mapped-rest, mapped-turn}
 use Rattle.ranges.specs.Range.{Range}
@@ -16,12 +19,13 @@ use Rattle.ranges.specs.Table.{named}
 use Rattle.table.specs.Table.{rangesOf}
 use Rattle.places.specs.Places.{nowhere, placeAt}
 use Rattle.store.specs.Trim.{keptPlace}
-use Rattle.chains.specs.Chains.{Chained, keyed}
+use Rattle.chains.specs.Chains.{Chained, head-le, keyed}
 use Rattle.columns.specs.Ranges.{Spans, Tags}
 use Rattle.store.specs.Abs.{used}
-use Rattle.sheet.specs.Sheet.{withPlace, withPlaces}
-use Rattle.sound_places.specs.Windows.{Met, Seen, Wide, walk-named, outside}
-use Rattle.sound_places.specs.Words.{heads-long, lines-long, next-long}
+use Rattle.sheet.specs.Sheet.{storeOf, withPlace, withPlaces}
+use Rattle.sheet.specs.Edits.{storeOf-sized}
+use Rattle.sound_places.specs.Windows.{Falls, Found, Hinted, Met, Seen, Wide, link-falls, met-head, outside, outsideAt, walk-named}
+use Rattle.sound_places.specs.Words.{heads-long, lines-long, next-all, next-long}
 
 -- how long the columns and the links of the ranges are
 pub record Long (ts xs l : List ℕ) : Type 0 where
@@ -38,10 +42,37 @@ pub record Told (s : Store) (n : ℕ) (ts xs l : List ℕ) : Type 0 where
   pub chained : Chained (keyed ts) n (take 1024 l) (drop 1024 l)
   pub long : Long ts xs l
 
+pub told-by : (s : Store) (n : ℕ) (ts xs l : List ℕ) → s .count ≤ 512 → n ≡ s .count → Tags (s .ranges) n ts × Spans (s .ranges) n xs × (length ts ≡ 512) × (length xs ≡ 512)
+    → Chained (keyed ts) n (take 1024 l) (drop 1024 l) × (length l ≡ 2048) → Told s n ts xs l
+told-by s n ts xs l b e d c =
+    record { count = e; few = omega arith; tags = d .0; spans = d .1; chained = c .0; long = record { tags = d .2; spans = d .3; links = c .1 } }
+
 -- the parts that the windows are looked for in
 module _ (w ts xs l : List ℕ) (L : Long ts xs l) where
   pub wide : length w ≡ 2579 → Wide (take 512 w) ts xs (take 1024 l) (take 1024 (drop 1024 l))
   wide h = record { lines = lines-long w h; tags = L .tags; spans = L .spans; heads = heads-long l (L .links); next = next-long l (L .links) }
+
+  -- the walk from the head of the chain of x
+  module _ (n hint x : ℕ) (H : Hinted ts (take 1024 l) (drop 1024 l) n hint) where
+    pub head-here : getD l (x / 4294967296 % 1024) 0 ≤ n
+    head-here = head-le (keyed ts) l n (x / 4294967296 % 1024) (omega arith) (H .chained)
+
+    pub falls-here : Falls (take 1024 (drop 1024 l)) (getD l (x / 4294967296 % 1024) 0)
+    falls-here = rw (next-all l (L .links)) (link-falls ts xs (take 1024 l) (drop 1024 l) n x hint H (getD l (x / 4294967296 % 1024) 0) head-here)
+
+    pub found-here : (r : ℕ) → Found ts xs (take 1024 (drop 1024 l)) x (getD l (x / 4294967296 % 1024) 0) r → Met ts xs (take 1024 l) (drop 1024 l) n x r
+    found-here r F =
+        met-head ts xs (take 1024 l) (drop 1024 l) n x hint H r
+        (rw (getD-take 1024 l (x / 4294967296 % 1024) 0 (omega arith), ← next-all l (L .links)) F)
+
+-- x tells a place: the spot where it is, or 0
+pub record Spot (p : Place) (x : ℕ) : Type 0 where
+  pub number : x ≡ p .backing * 4294967296 + p .index
+  pub small : p .index < 4294967296
+
+-- T is the store S with the places of its first f frames trimmed
+abbrev pub Trimmed : Store → ℕ → Store → Type 0
+Trimmed S f T = T ≡ withPlaces (mapped (keptPlace (rangesOf (used S))) (S .places) f) S
 
 -- ---- one turn of a loop that puts g of each place in its place: the store S, with the first f places done, is T
 module _ (g : Place → Place) (S T : Store) (f : ℕ) (h : f < length (S .places)) (e : T ≡ withPlaces (mapped g (S .places) f) S) where
@@ -49,48 +80,128 @@ module _ (g : Place → Place) (S T : Store) (f : ℕ) (h : f < length (S .place
   here = mapped-rest g (S .places) (T .places) f nowhere h (ap (λ t. t .places) e)
 
   -- the place is set
-  pub turn-set : (U : Store) (q : Place) → q ≡ g (placeAt (T .places) f) → U ≡ withPlace f q T → U ≡ withPlaces (mapped g (S .places) (f + 1)) S
+  turn-set : (U : Store) (q : Place) → q ≡ g (placeAt (T .places) f) → U ≡ withPlace f q T → U ≡ withPlaces (mapped g (S .places) (f + 1)) S
   turn-set U q z u =
       u ∙ ap (withPlace f q) e
       ∙ ap (λ l. withPlaces l S) (mapped-turn g (S .places) (mapped g (S .places) f) f q nowhere h (z ∙ ap g here) refl)
 
   -- the place stays
-  pub turn-keep : g (placeAt (T .places) f) ≡ placeAt (T .places) f → T ≡ withPlaces (mapped g (S .places) (f + 1)) S
+  turn-keep : g (placeAt (T .places) f) ≡ placeAt (T .places) f → T ≡ withPlaces (mapped g (S .places) (f + 1)) S
   turn-keep z = turn-set T (placeAt (T .places) f) (sym z) (ap (λ l. withPlaces l T) (sym (set-getD (T .places) f nowhere)))
 
-pub turns-none : (g : Place → Place) (S : Store) → S ≡ withPlaces (mapped g (S .places) 0) S
-turns-none g S = ap (λ l. withPlaces l S) (mapped-none g (S .places))
-
+-- ---- the place that trimming keeps
 -- a free frame's place stays
-pub kept-zero : (rs : List Range) (p : Place) → p .backing * 4294967296 + p .index ≡ 0 → keptPlace rs p ≡ p
-kept-zero rs p h =
+kept-zero : (rs : List Range) (p : Place) (x : ℕ) → Spot p x → x ≡ 0 → keptPlace rs p ≡ p
+kept-zero rs p x P h =
+    let n = P .number in
     let b : p .backing ≡ 0 = omega arith in
     let i : p .index ≡ 0 = omega arith in
     let z : p ≡ nowhere = λ j. record { backing = b j; index = i j } in
     by-test (named (p .backing) (p .index) rs) (λ t. rw t) (λ t. rw t (sym z))
 
--- ---- the place that trimming keeps, by what the walk along the chains meets
-module _ (S : Store) (full : length (S .ranges) ≡ 512) (n : ℕ) (ts xs l : List ℕ) (T : Told S n ts xs l) (p : Place) (small : p .index < 4294967296) where
-  abbrev x : ℕ
-  x = p .backing * 4294967296 + p .index
+-- what is trimmed stays as it is
+kept-again : (rs : List Range) (p : Place) → keptPlace rs (keptPlace rs p) ≡ keptPlace rs p
+kept-again rs p =
+    by-test (named (p .backing) (p .index) rs)
+    (λ t. let e : keptPlace rs p ≡ p = rw t in ap (keptPlace rs) e)
+    (λ t.
+    let e : keptPlace rs p ≡ nowhere = rw t in
+    ap (keptPlace rs) e ∙ kept-zero rs nowhere 0 (record { number = refl; small = omega arith }) refl ∙ sym e)
 
-  told : named (p .backing) (p .index) (rangesOf (used S)) ≡ not (allBelow (outside ts xs (x / 4294967296) (x % 4294967296)) (getD (take 1024 l) (x / 4294967296 % 1024) 0))
+-- by what the walk along the chains meets
+module _ (S : Store) (full : length (S .ranges) ≡ 512) (n : ℕ) (ts xs l : List ℕ) (D : Told S n ts xs l) (p : Place) (x : ℕ) (P : Spot p x) where
+  told : named (p .backing) (p .index) (rangesOf (used S)) ≡ not (allBelow (outsideAt ts xs x) (getD (take 1024 l) (x / 4294967296 % 1024) 0))
   told =
+      let e = P .number in
+      let m = P .small in
       let b : p .backing ≡ x / 4294967296 = omega arith in
       let i : p .index ≡ x % 4294967296 = omega arith in
-      ap (λ (k : ℕ). named (p .backing) (p .index) (rangesOf (take k (S .ranges)))) (sym (T .count))
-      ∙ walk-named (S .ranges) ts xs n (omega (arith, T .few)) (T .tags) (T .spans) (take 1024 l) (drop 1024 l) (T .chained) (p .backing) (p .index)
+      ap (λ (k : ℕ). named (p .backing) (p .index) (rangesOf (take k (S .ranges)))) (sym (D .count))
+      ∙ walk-named (S .ranges) ts xs n (omega (arith, D .few)) (D .tags) (D .spans) (take 1024 l) (drop 1024 l) (D .chained) (p .backing) (p .index)
       ∙ ap₂ (λ c j. not (allBelow (outside ts xs c j) (getD (take 1024 l) (c % 1024) 0))) b i
 
   -- it lies in the window that was found last: it stays
-  pub met-seen : (low high : ℕ) → Seen ts xs (take 1024 l) low high → low ≤ x → x < high → keptPlace (rangesOf (used S)) p ≡ p
+  met-seen : (low high : ℕ) → Seen ts xs (take 1024 l) low high → low ≤ x → x < high → keptPlace (rangesOf (used S)) p ≡ p
   met-seen low high W b h = rw (told, W .met x b h)
 
   module _ (r : ℕ) (M : Met ts xs (take 1024 l) (drop 1024 l) n x r) where
     -- nothing is met: the place goes
-    pub met-none : r ≡ 0 → nowhere ≡ keptPlace (rangesOf (used S)) p
+    met-none : r ≡ 0 → nowhere ≡ keptPlace (rangesOf (used S)) p
     met-none z = rw (told, M .none z)
 
     -- a window is met: it stays
-    pub met-some : (r ≡ 0 → ⊥) → keptPlace (rangesOf (used S)) p ≡ p
+    met-some : (r ≡ 0 → ⊥) → keptPlace (rangesOf (used S)) p ≡ p
     met-some z = rw (told, M .some (omega arith))
+
+-- ---- one turn of trimming: the store of w, with its first f places trimmed, is T, and x tells the place of frame f
+module _ (w : List ℕ) (T : Store) (f x : ℕ) (h : f < 1024) (e : Trimmed (storeOf w) f T) (P : Spot (placeAt (T .places) f) x) where
+  in-store : f < length (storeOf w .places)
+  in-store = omega (arith, storeOf-sized w .places)
+
+  g : Place → Place
+  g = keptPlace (rangesOf (used (storeOf w)))
+
+  stays : g (placeAt (T .places) f) ≡ placeAt (T .places) f → Trimmed (storeOf w) (f + 1) T
+  unfolding g
+  stays z = turn-keep g (storeOf w) T f in-store e z
+
+  -- the frame is free
+  pub turn-free : x ≡ 0 → Trimmed (storeOf w) (f + 1) T
+  unfolding g
+  turn-free z = stays (kept-zero (rangesOf (used (storeOf w))) (placeAt (T .places) f) x P z)
+
+  module _ (n : ℕ) (ts xs l : List ℕ) (D : Told (storeOf w) n ts xs l) where
+    -- it is free, or stands in the window that was found last
+    pub turn-known : (low high : ℕ) → Seen ts xs (take 1024 l) low high → (eqb x 0 || (leb low x && ltb x high)) ≡ true → Trimmed (storeOf w) (f + 1) T
+    unfolding g
+    turn-known low high W u =
+        by-test (eqb x 0)
+        (λ t. turn-free (eqb-true x 0 t))
+        (λ t.
+        let v : (leb low x && ltb x high) ≡ true = rw t at u in
+        let b = leb-true low x (and-left (leb low x) (ltb x high) v) in
+        let c = ltb-true x high (and-right (leb low x) (ltb x high) v) in
+        stays (met-seen (storeOf w) (storeOf-sized w .ranges) n ts xs l D (placeAt (T .places) f) x P low high W b c))
+
+    -- a window is met
+    pub turn-some : (r : ℕ) → Met ts xs (take 1024 l) (drop 1024 l) n x r → (r ≡ 0 → ⊥) → Trimmed (storeOf w) (f + 1) T
+    unfolding g
+    turn-some r M z = stays (met-some (storeOf w) (storeOf-sized w .ranges) n ts xs l D (placeAt (T .places) f) x P r M z)
+
+    -- none is met: the frame is cleared
+    pub turn-none : (r : ℕ) → Met ts xs (take 1024 l) (drop 1024 l) n x r → r ≡ 0 → (U : Store) → U ≡ withPlace f nowhere T → Trimmed (storeOf w) (f + 1) U
+    unfolding g
+    turn-none r M z U u =
+        turn-set g (storeOf w) T f in-store e U nowhere (met-none (storeOf w) (storeOf-sized w .ranges) n ts xs l D (placeAt (T .places) f) x P r M z) u
+
+-- ---- trimming that goes on
+pub trimmed-none : (S : Store) → Trimmed S 0 S
+trimmed-none S = ap (λ l. withPlaces l S) (mapped-none (keptPlace (rangesOf (used S))) (S .places))
+
+mapped-again : (g : Place → Place) → ((p : Place) → g (g p) ≡ g p) → (l : List Place) (f n : ℕ) → f ≤ n → mapped g (mapped g l f) n ≡ mapped g l n
+unfolding mapped
+mapped-again g i [] zero n h = refl
+mapped-again g i [] (suc f) n h = refl
+mapped-again g i (p ∷ l) zero n h = refl
+mapped-again g i (p ∷ l) (suc f) zero h = absurd (not-suc-le-zero h)
+mapped-again g i (p ∷ l) (suc f) (suc n) h = λ j. i p j ∷ mapped-again g i l f n (le-of-suc-le-suc h) j
+
+-- T is S with its first f places trimmed
+module _ (S T : Store) (f : ℕ) (e : Trimmed S f T) where
+  again : (n : ℕ) → f ≤ n → withPlaces (mapped (keptPlace (rangesOf (used T))) (T .places) n) T ≡ withPlaces (mapped (keptPlace (rangesOf (used S))) (S .places) n) S
+  again n h =
+      ap (λ t. withPlaces (mapped (keptPlace (rangesOf (used t))) (t .places) n) t) e
+      ∙ ap (λ l. withPlaces l S) (mapped-again (keptPlace (rangesOf (used S))) (kept-again (rangesOf (used S))) (S .places) f n h)
+
+  -- its first f places are trimmed
+  pub trimmed-here : Trimmed T f T
+  trimmed-here = e ∙ sym (again f (le-refl f))
+
+  -- what is trimmed from there on is trimmed
+  pub trimmed-on : (n : ℕ) (U : Store) → f ≤ n → Trimmed T n U → Trimmed S n U
+  trimmed-on n U h u = u ∙ again n h
+
+  -- the columns tell its ranges
+  pub told-here : (n : ℕ) (ts xs l : List ℕ) → Told S n ts xs l → Told T n ts xs l
+  told-here n ts xs l D =
+      rw e (record { count = D .count; few = D .few; tags = D .tags; spans = D .spans; chained = D .chained; long = D .long })

@@ -1,10 +1,20 @@
 -- `tidy::trim` meets its contract.
+use mathlib.Core.Path.{_≡_, ap, subst}
+use Prim.Native.Nat.{ℕ}
+use Rattle.sheet.specs.Sheet.{storeOf}
+use Rattle.store.specs.declared.Store.{Store}
+use Rattle.lists.specs.Mapped.{mapped}
+use Rattle.tidy.specs.Tidy.{told-by, told-here, trimmed-here, trimmed-none, trimmed-on, Trimmed}
 use borrow.Author.Needs.{needs}
+use native.Mathlib.Omega.{arith}
 use Rattle.tidy.proofs.trim.Statement.{statement}
 use Rattle.tidy.proofs.trim.Tie as tie
 
 count-requires : tie.Need-count-requires
 count-requires c κs = search needs
+
+frames-requires : tie.Need-frames-requires
+frames-requires c κs = search needs
 
 columns-of-requires : tie.Need-columns-of-requires
 columns-of-requires c κs = search needs
@@ -17,30 +27,54 @@ link-requires c κs = search needs
 
 trim-along-requires : tie.Need-trim-along-requires
 trim-along-requires c κs =
-    let d = c .before .before .before .before .before .before .before .columns-of .ensures in
-    let l = c .before .before .before .before .link .ensures in (
-      search needs,
-      search needs,
-      record {
-        count = c .before .before .before .before .before .before .before .before .before .before .before .count .ensures;
-        few = search needs;
-        tags = d .0;
-        spans = d .1;
-        chained = l .0;
-        long = record { tags = d .2; spans = d .3; links = l .1 };
-      },
+    let a = c .before .before .before .before .before .before .before .before .before .before .before .before .before .before .before .args in
+    (search needs, search needs, search needs, trimmed-none (storeOf (a .sheet .now)), told-by (storeOf (a .sheet .now)) _ _ _ _ (c .before .before .before .before .before .before .before .before .before .before .before .before .before .before .before .pre .2) (c .before .before .before .before .before .before .before .before .before .before .before .before .before .count .ensures) (c .before .before .before .before .before .before .before .columns-of .ensures) (c .before .before .before .before .link .ensures))
+
+trim-rest-requires : tie.Need-trim-rest-requires
+trim-rest-requires c κs =
+    let a = c .before .before .before .before .before .before .before .before .before .before .before .before .before .before .before .before .before .before .before .before .before .args in
+    let t = c .before .before .before .before .before .trim-along in
+    let e = t .ensures .0 in
+    let n = ap (λ (s : Store). s .frames) e in
+    let d = told-by (storeOf (a .sheet .now)) _ _ _ _ (c .before .before .before .before .before .before .before .before .before .before .before .before .before .before .before .before .before .before .before .before .before .pre .2) (c .before .before .before .before .before .before .before .before .before .before .before .before .before .before .before .before .before .before .before .count .ensures) (c .before .before .before .before .before .before .before .before .before .before .before .before .before .columns-of .ensures) (c .before .before .before .before .before .before .before .before .before .before .link .ensures) in (
+      t .ensures .3,
+      omega (arith, c .before .before .before .before .before .before .before .before .before .before .before .before .before .before .before .before .before .before .before .before .before .pre .1),
+      omega (arith, t .ensures .1),
+      trimmed-here (storeOf (a .sheet .now)) (storeOf (t .last .0)) (t .result) e,
+      told-here (storeOf (a .sheet .now)) (storeOf (t .last .0)) (t .result) e _ _ _ _ d,
     )
 
 returns : tie.Need-returns
-returns c = search needs
+unfolding mapped
+returns c =
+    let a = c .before .before .before .before .before .before .before .before .before .before .before .before .before .before .before .before .before .before .before .before .before .before .args in
+    let t = c .before .before .before .before .before .before .trim-along in
+    let e = t .ensures .0 in
+    let n = ap (λ (s : Store). s .frames) e in
+    let r = c .trim-rest .ensures in
+    let u = subst (λ (k : ℕ). Trimmed (storeOf (t .last .0)) k (storeOf (c .trim-rest .last .0))) n (r .0) in
+    (trimmed-on (storeOf (a .sheet .now)) (storeOf (t .last .0)) (t .result) e _ _ (t .ensures .1) u, r .1)
+
+returns-2 : tie.Need-returns-2
+unfolding mapped
+returns-2 c =
+    let a = c .before .before .before .before .before .before .before .before .before .before .before .before .before .before .before .before .before .args in
+    let t = c .before .trim-along in
+    let b = t .ensures .1 in
+    let u = c .if1 .left in
+    let q : t .result ≡ storeOf (a .sheet .now) .frames = omega (arith, c .before .before .before .before .before .before .before .before .before .before .before .before .before .frames .ensures) in
+    (subst (λ (k : ℕ). Trimmed (storeOf (a .sheet .now)) k (storeOf (t .last .0))) q (t .ensures .0), t .ensures .3)
 
 pub trim-spec : {M : Type 1} → statement M
 trim-spec =
     tie.close
     (tie.spec
     count-requires
+    frames-requires
     columns-of-requires
     slice-aggregate-link
     link-requires
     trim-along-requires
-    returns)
+    trim-rest-requires
+    returns
+    returns-2)

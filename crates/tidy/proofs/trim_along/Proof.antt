@@ -1,30 +1,22 @@
--- `tidy::trim_along` meets its contract. The loop's invariant: the places of the first `f` frames are done, and `hint` is a link. The measure is the number of
--- frames left.
-use mathlib.Core.Path.{_≡_, ap, sym, _∙_}
-use Prim.Native.Nat.{ℕ, _+_, _-_, _*_, _≤_, _<_}
-use lib.Dec.{leb, ltb}
-use borrow.Author.Tests.{leb-true, ltb-true}
-use Rattle.lists.specs.Test.{and-left, and-right}
+-- `tidy::trim_along` meets its contract. The loop's invariant: the places of the first `f` frames are trimmed, `hint` is a link, and no frame took more than 512 steps. The
+-- measure is the number of frames left.
+use mathlib.Core.Path.{_≡_}
+use Prim.Native.Nat.{_+_, _*_, _-_, _≤_, _<_}
 use lib.ListN.{drop, length, take}
-use Rattle.lists.specs.Mapped.{mapped}
-use Rattle.table.specs.Table.{rangesOf}
-use Rattle.store.specs.Trim.{keptPlace}
-use Rattle.store.specs.Abs.{used}
-use Rattle.sheet.specs.Sheet.{storeOf, withPlaces}
+use Rattle.sheet.specs.Sheet.{storeOf}
 use Rattle.sound_places.specs.Windows.{seen-met, seen-none, Hinted, Seen}
-use Rattle.tidy.specs.Tidy.{kept-zero, met-none, met-seen, met-some, turn-keep, turn-set, turns-none}
+use Rattle.tidy.specs.Tidy.{turn-known, turn-none, turn-some, Trimmed}
 use borrow.Author.Needs.{needs}
 use native.Mathlib.Omega.{arith}
 use Rattle.tidy.proofs.trim_along.Statement.{statement}
 use Rattle.tidy.proofs.trim_along.Tie as tie
-use Rattle.sheet.specs.Edits.{storeOf-sized}
 
 abbrev Inv-loop : tie.InvT-loop
-Inv-loop sheet₀ count tags spans links frames hint₀ low₀ high₀ f₀ sheet hint low high f =
-    (f ≤ frames) × (length sheet ≡ 2579) × Hinted tags (take 1024 links) (drop 1024 links) count hint × Seen tags spans (take 1024 links) low high × (storeOf sheet ≡ withPlaces (mapped (keptPlace (rangesOf (used (storeOf sheet₀)))) (storeOf sheet₀ .places) f) (storeOf sheet₀))
+Inv-loop sheet₀ count tags spans links from steps frames left₀ hint₀ low₀ high₀ f₀ sheet left hint low high f =
+    (f ≤ frames) × (length sheet ≡ 2579) × (steps ≤ left + f * 512) × Hinted tags (take 1024 links) (drop 1024 links) count hint × Seen tags spans (take 1024 links) low high × Trimmed (storeOf sheet₀) f (storeOf sheet)
 
 abbrev μ-loop : tie.MeasureT-loop
-μ-loop sheet₀ count tags spans links frames hint₀ low₀ high₀ f₀ sheet hint low high f = frames - f
+μ-loop sheet₀ count tags spans links from steps frames left₀ hint₀ low₀ high₀ f₀ sheet left hint low high f = frames - f
 
 frames-requires : tie.Need-frames-requires Inv-loop μ-loop
 frames-requires c κs = search needs
@@ -32,28 +24,11 @@ frames-requires c κs = search needs
 loop-holds : tie.Need-loop-holds Inv-loop μ-loop
 loop-holds c =
     let a = c .before .before .args in
-    let t = c .before .before .pre .2 in (
-      search needs,
-      search needs,
-      record { few = t .few; chained = t .chained; low = omega arith },
-      seen-none (a .tags .now) (a .spans .now) (take 1024 (a .links .now)),
-      turns-none (keptPlace (rangesOf (used (storeOf (a .sheet .now))))) (storeOf (a .sheet .now)),
-    )
+    let p = c .before .before .pre in
+    (search needs, search needs, search needs, record { few = p .4 .few; chained = p .4 .chained; low = omega arith }, seen-none (a .tags .now) (a .spans .now) (take 1024 (a .links .now)), p .3)
 
-place-requires : tie.Need-place-requires Inv-loop μ-loop
-place-requires c κs = search needs
-
-cast-x : tie.Need-cast-x Inv-loop μ-loop
-cast-x c = search needs
-
-mul-x : tie.Need-mul-x Inv-loop μ-loop
-mul-x c = search needs
-
-cast-x-2 : tie.Need-cast-x-2 Inv-loop μ-loop
-cast-x-2 c = search needs
-
-add-x : tie.Need-add-x Inv-loop μ-loop
-add-x c = search needs
+spot-requires : tie.Need-spot-requires Inv-loop μ-loop
+spot-requires c κs = search needs
 
 add-f : tie.Need-add-f Inv-loop μ-loop
 add-f c = search needs
@@ -63,18 +38,19 @@ loop-less c = search needs
 
 loop-again : tie.Need-loop-again Inv-loop μ-loop
 loop-again c =
-    let a = c .before .before .before .before .before .before .before .before .before .args in
-    let l = c .before .before .before .before .before .before .loop in
-    let s = storeOf (a .sheet .now) in
-    let p = c .before .before .before .place in
-    let g = keptPlace (rangesOf (used s)) in (
-      search needs,
-      search needs,
-      l .inv .2,
-      l .inv .3,
-      turn-keep g s (storeOf (l .sheet)) (l .f) (omega (arith, storeOf-sized (a .sheet .now) .places)) (l .inv .4)
-          (ap g (sym (p .ensures)) ∙ kept-zero (rangesOf (used s)) (p .result) (c .if1 .taken) ∙ p .ensures),
-    )
+    let a = c .before .before .before .before .before .before .before .args in
+    let l = c .before .before .before .before .loop in
+    let h : l .f < 1024 = search needs in
+    (search needs, search needs, search needs, l .inv .3, l .inv .4, turn-known (a .sheet .now) (storeOf (l .sheet)) (l .f) _ h (l .inv .5) (c .before .spot .ensures) (a .count) (a .tags .now) (a .spans .now) (a .links .now) (c .before .before .before .before .before .before .before .pre .4) (l .low) (l .high) (l .inv .4) (c .if1 .taken))
+
+looked-for-requires : tie.Need-looked-for-requires Inv-loop μ-loop
+looked-for-requires c κs = search needs
+
+returns : tie.Need-returns Inv-loop μ-loop
+returns c = search needs
+
+clear-requires : tie.Need-clear-requires Inv-loop μ-loop
+clear-requires c κs = search needs
 
 add-f-2 : tie.Need-add-f-2 Inv-loop μ-loop
 add-f-2 c = search needs
@@ -84,29 +60,49 @@ loop-less-2 c = search needs
 
 loop-again-2 : tie.Need-loop-again-2 Inv-loop μ-loop
 loop-again-2 c =
-    let a = c .before .before .before .before .before .before .before .before .before .before .args in
-    let l = c .before .before .before .before .before .before .before .loop in
-    let s = storeOf (a .sheet .now) in
-    let p = c .before .before .before .before .place in
-    let g = keptPlace (rangesOf (used s)) in
-    let t = c .before .before .before .before .before .before .before .before .before .before .pre .2 in
-    let x : ℕ = p .result .backing * 4294967296 + p .result .index in
-    let b = leb-true (l .low) x (and-left (leb (l .low) x) (ltb x (l .high)) (c .if2 .taken)) in
-    let h = ltb-true x (l .high) (and-right (leb (l .low) x) (ltb x (l .high)) (c .if2 .taken)) in
-    let z = met-seen s (storeOf-sized (a .sheet .now) .ranges) (a .count) (a .tags .now) (a .spans .now) (a .links .now) t (p .result) (search needs) (l .low) (l .high) (l .inv .3) b h in (
-      search needs,
-      search needs,
-      l .inv .2,
-      l .inv .3,
-      turn-keep g s (storeOf (l .sheet)) (l .f) (omega (arith, storeOf-sized (a .sheet .now) .places)) (l .inv .4)
-          (ap g (sym (p .ensures)) ∙ z ∙ p .ensures),
-    )
+    let a = c .before .before .before .before .before .before .before .before .before .before .before .before .before .before .before .before .before .before .args in
+    let l = c .before .before .before .before .before .before .before .before .before .before .before .before .before .before .before .loop in
+    let h : l .f < 1024 = search needs in
+    let w = c .before .before .before .before .before .looked-for .ensures in
+    let z = c .before .before .before .before .if2 .left in
+    let m = w .0 (omega arith) in
+    (search needs, search needs, omega (arith, w .1, l .inv .2), l .inv .3, l .inv .4, turn-none (a .sheet .now) (storeOf (l .sheet)) (l .f) _ h (l .inv .5) (c .before .before .before .before .before .before .before .before .before .before .before .before .spot .ensures) (a .count) (a .tags .now) (a .spans .now) (a .links .now) (c .before .before .before .before .before .before .before .before .before .before .before .before .before .before .before .before .before .before .pre .4) _ m (c .before .before .if3 .taken) _ (c .clear .ensures .0))
 
-window-of-requires : tie.Need-window-of-requires Inv-loop μ-loop
-window-of-requires c κs = search needs
+sub-window-start : tie.Need-sub-window-start Inv-loop μ-loop
+sub-window-start c = search needs
 
-set-place-requires : tie.Need-set-place-requires Inv-loop μ-loop
-set-place-requires c κs = search needs
+mul-window-start : tie.Need-mul-window-start Inv-loop μ-loop
+mul-window-start c =
+    let z = c .before .before .if2 .left in
+    let m = c .before .before .before .looked-for .ensures .0 (omega arith) in
+    omega (arith, m .low, c .before .before .before .before .before .before .before .before .before .before .before .before .before .before .before .before .pre .4 .few)
+
+element-copy-out-window-start : tie.Need-element-copy-out-window-start Inv-loop μ-loop
+element-copy-out-window-start c =
+    let z = c .before .before .if2 .left in
+    let m = c .before .before .before .looked-for .ensures .0 (omega arith) in
+    omega (arith, m .low, c .before .before .before .before .before .before .before .before .before .before .before .before .before .before .before .before .pre .4 .few)
+
+window-start-requires : tie.Need-window-start-requires Inv-loop μ-loop
+window-start-requires c κs = search needs
+
+sub-window-end : tie.Need-sub-window-end Inv-loop μ-loop
+sub-window-end c = search needs
+
+mul-window-end : tie.Need-mul-window-end Inv-loop μ-loop
+mul-window-end c =
+    let z = c .before .before .before .before .if2 .left in
+    let m = c .before .before .before .before .before .looked-for .ensures .0 (omega arith) in
+    omega (arith, m .low, c .before .before .before .before .before .before .before .before .before .before .before .before .before .before .before .before .before .before .pre .4 .few)
+
+element-copy-out-window-end : tie.Need-element-copy-out-window-end Inv-loop μ-loop
+element-copy-out-window-end c =
+    let z = c .before .before .before .before .if2 .left in
+    let m = c .before .before .before .before .before .looked-for .ensures .0 (omega arith) in
+    omega (arith, m .low, c .before .before .before .before .before .before .before .before .before .before .before .before .before .before .before .before .before .before .pre .4 .few)
+
+window-end-requires : tie.Need-window-end-requires Inv-loop μ-loop
+window-end-requires c κs = search needs
 
 add-f-3 : tie.Need-add-f-3 Inv-loop μ-loop
 add-f-3 c = search needs
@@ -116,76 +112,25 @@ loop-less-3 c = search needs
 
 loop-again-3 : tie.Need-loop-again-3 Inv-loop μ-loop
 loop-again-3 c =
-    let a = c .before .before .before .before .before .before .before .before .before .before .before .before .before .before .before .before .before .before .before .args in
-    let l = c .before .before .before .before .before .before .before .before .before .before .before .before .before .before .before .before .loop in
-    let s = storeOf (a .sheet .now) in
-    let p = c .before .before .before .before .before .before .before .before .before .before .before .before .before .place in
-    let g = keptPlace (rangesOf (used s)) in
-    let t = c .before .before .before .before .before .before .before .before .before .before .before .before .before .before .before .before .before .before .before .pre .2 in
-    let few = c .before .before .before .before .before .before .before .before .before .before .before .before .before .before .before .before .before .before .before .pre .1 in
-    let e = c .before .before .before .before .before .before .before .before .before .before .before .before .before .before .before .before .before .frames .ensures in
-    let h : l .f < c .before .before .before .before .before .before .before .before .before .before .before .before .before .before .before .before .before .frames .result = search needs in
-    let z = met-none s (storeOf-sized (a .sheet .now) .ranges) (a .count) (a .tags .now) (a .spans .now) (a .links .now) t (p .result) (search needs) _ (c .before .before .before .window-of .ensures) (c .before .before .if3 .taken) in (
-      search needs,
-      search needs,
-      l .inv .2,
-      l .inv .3,
-      turn-set g s (storeOf (l .sheet)) (l .f) (omega (arith, storeOf-sized (a .sheet .now) .places)) (l .inv .4) _ _
-          (z ∙ ap g (p .ensures)) (c .set-place .ensures .0),
-    )
-
-sub-span : tie.Need-sub-span Inv-loop μ-loop
-sub-span c = search needs
-
-mul-span : tie.Need-mul-span Inv-loop μ-loop
-mul-span c = search needs
-
-element-copy-out-span : tie.Need-element-copy-out-span Inv-loop μ-loop
-element-copy-out-span c = search needs
-
-window-start-requires : tie.Need-window-start-requires Inv-loop μ-loop
-window-start-requires c κs = search needs
-
-window-end-requires : tie.Need-window-end-requires Inv-loop μ-loop
-window-end-requires c κs = search needs
-
-add-f-4 : tie.Need-add-f-4 Inv-loop μ-loop
-add-f-4 c = search needs
-
-loop-less-4 : tie.Need-loop-less-4 Inv-loop μ-loop
-loop-less-4 c = search needs
-
-loop-again-4 : tie.Need-loop-again-4 Inv-loop μ-loop
-loop-again-4 c =
     let a = c .before .before .before .before .before .before .before .before .before .before .before .before .before .before .before .before .before .before .before .before .args in
     let l = c .before .before .before .before .before .before .before .before .before .before .before .before .before .before .before .before .before .loop in
-    let s = storeOf (a .sheet .now) in
-    let p = c .before .before .before .before .before .before .before .before .before .before .before .before .before .before .place in
-    let g = keptPlace (rangesOf (used s)) in
-    let t = c .before .before .before .before .before .before .before .before .before .before .before .before .before .before .before .before .before .before .before .before .pre .2 in
-    let few = c .before .before .before .before .before .before .before .before .before .before .before .before .before .before .before .before .before .before .before .before .pre .1 in
-    let e = c .before .before .before .before .before .before .before .before .before .before .before .before .before .before .before .before .before .before .frames .ensures in
-    let h : l .f < c .before .before .before .before .before .before .before .before .before .before .before .before .before .before .before .before .before .before .frames .result = search needs in
-    let x : ℕ = p .result .backing * 4294967296 + p .result .index in
-    let m = c .before .before .before .before .window-of .ensures in
-    let n = c .before .before .before .if3 .left in
-    let z = met-some s (storeOf-sized (a .sheet .now) .ranges) (a .count) (a .tags .now) (a .spans .now) (a .links .now) t (p .result) (search needs) _ m n in (
+    let h : l .f < 1024 = search needs in
+    let p = c .before .before .before .before .before .before .before .before .before .before .before .before .before .before .before .before .before .before .before .before .pre .4 in
+    let x = c .before .before .before .before .before .before .before .before .before .before .before .before .before .before .spot .result in
+    let w = c .before .before .before .before .before .before .before .looked-for .ensures in
+    let z = c .before .before .before .before .before .before .if2 .left in
+    let n = c .before .before .before .before .if3 .left in
+    let m = w .0 (omega arith) in (
       search needs,
       search needs,
-      record { few = t .few; chained = t .chained; low = m .low },
-      seen-met (a .tags .now) (a .spans .now) (take 1024 (a .links .now)) (drop 1024 (a .links .now)) (a .count) x (l .hint) (l .inv .2) _ (omega arith) m _ _ (c .before .window-start .ensures) (c .window-end .ensures),
-      turn-keep g s (storeOf (l .sheet)) (l .f) (omega (arith, storeOf-sized (a .sheet .now) .places)) (l .inv .4)
-          (ap g (sym (p .ensures)) ∙ z ∙ p .ensures),
+      omega (arith, w .1, l .inv .2),
+      record { few = p .few; chained = p .chained; low = m .low },
+      seen-met (a .tags .now) (a .spans .now) (take 1024 (a .links .now)) (drop 1024 (a .links .now)) (a .count) x (l .hint) (l .inv .3) _ (omega arith) m _ _ (c .before .before .window-start .ensures) (c .window-end .ensures),
+      turn-some (a .sheet .now) (storeOf (l .sheet)) (l .f) _ h (l .inv .5) (c .before .before .before .before .before .before .before .before .before .before .before .before .before .before .spot .ensures) (a .count) (a .tags .now) (a .spans .now) (a .links .now) (c .before .before .before .before .before .before .before .before .before .before .before .before .before .before .before .before .before .before .before .before .pre .4) _ m n,
     )
 
-returns : tie.Need-returns Inv-loop μ-loop
-unfolding mapped
-returns c =
-    let a = c .before .before .before .before .args in
-    let l = c .before .loop in
-    let s = storeOf (a .sheet .now) in
-    let e : l .f ≡ s .frames = omega arith in
-    (l .inv .4 ∙ ap (λ (k : ℕ). withPlaces (mapped (keptPlace (rangesOf (used s))) (s .places) k) s) e, search needs)
+returns-2 : tie.Need-returns-2 Inv-loop μ-loop
+returns-2 c = search needs
 
 pub trim-along-spec : {M : Type 1} → statement M
 trim-along-spec =
@@ -195,28 +140,25 @@ trim-along-spec =
     μ-loop
     frames-requires
     loop-holds
-    place-requires
-    cast-x
-    mul-x
-    cast-x-2
-    add-x
+    spot-requires
     add-f
     loop-less
     loop-again
+    looked-for-requires
+    returns
+    clear-requires
     add-f-2
     loop-less-2
     loop-again-2
-    window-of-requires
-    set-place-requires
+    sub-window-start
+    mul-window-start
+    element-copy-out-window-start
+    window-start-requires
+    sub-window-end
+    mul-window-end
+    element-copy-out-window-end
+    window-end-requires
     add-f-3
     loop-less-3
     loop-again-3
-    sub-span
-    mul-span
-    element-copy-out-span
-    window-start-requires
-    window-end-requires
-    add-f-4
-    loop-less-4
-    loop-again-4
-    returns)
+    returns-2)
