@@ -24,7 +24,8 @@ pub fn frame_of(sheet: &[u64; 2579], links: &[u16; 2048], backing: u32, index: u
     requires { ⌜ (Framed (now sheet) (now links)) × (storeOf (now sheet) .frames ≤ 1024) × Lone (storeOf (now sheet)) ⌝ }
     ensures { λ r. ⌜ r ≡ frameAt backing index 0 (take (storeOf (now (sheet .entry)) .frames) (storeOf (now (sheet .entry)) .places)) ⌝ }
 {
-    let key = (backing as usize) * 633 + (index as usize);
+    let i = index as usize;
+    let key = (backing as usize) * 633 + (i + i / 1024);
     let mut k = links[key % 1024] as usize;
     while 0 < k {
         let p = sheet::place(sheet, k - 1);

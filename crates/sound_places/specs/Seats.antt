@@ -73,7 +73,7 @@ module _ (xs hs ns : List ℕ) (n b : ℕ) (C : SpotChains xs n hs ns) (u : 0 < 
       met : (j : ℕ) → getD xs j 0 ≡ b * 4294967296 → chainAt xs j ≡ b * 633 % 1024
       met j e =
           let q = chain-used (getD xs j 0) (λ z. omega arith) in
-          let p : getD xs j 0 / 4294967296 * 633 + getD xs j 0 % 4294967296 ≡ b * 633 = omega arith in
+          let p : getD xs j 0 / 4294967296 * 633 + (getD xs j 0 % 4294967296 + getD xs j 0 % 4294967296 / 1024) ≡ b * 633 = omega arith in
           q ∙ ap (λ (x : ℕ). x % 1024) p
 
       other : (j : ℕ) → j < n → inChain (chainAt xs) (b * 633 % 1024) j ≡ false → missing xs b j ≡ true

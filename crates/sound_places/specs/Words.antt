@@ -211,7 +211,7 @@ module _ (w h : List ℕ) (n : ℕ) (R : Ranged w h n) where
 
 -- ---- a frame in use is put into its chain
 module _ (w l : List ℕ) (f : ℕ) (b : f < 1024) (u : 0 < getD (spotsOf w) f 0 / 4294967296) (long : length l ≡ 2048) (C : SpotChains (spotsOf w) f (take 1024 l) (drop 1024 l)) (h : ℕ)
-    (e : h ≡ (getD w (1536 + f) 0 / 4294967296 * 633 + getD w (1536 + f) 0 % 4294967296) % 1024) where
+    (e : h ≡ (getD w (1536 + f) 0 / 4294967296 * 633 + (getD w (1536 + f) 0 % 4294967296 + getD w (1536 + f) 0 % 4294967296 / 1024)) % 1024) where
   abbrev m : List ℕ
   m = set (set l (1024 + f) (getD l h 0)) h (f + 1)
 

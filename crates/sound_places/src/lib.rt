@@ -313,9 +313,10 @@ fn alone(sheet: &[u64], links: &[u16; 2048], f: usize, k: usize, x: u64) -> bool
 
 // The chain of the frames at spot x, and of others.
 fn chain_of(x: u64) -> usize
-    ensures { λ h. ⌜ h ≡ (x / 4294967296 * 633 + x % 4294967296) % 1024 ⌝ }
+    ensures { λ h. ⌜ h ≡ (x / 4294967296 * 633 + (x % 4294967296 + x % 4294967296 / 1024)) % 1024 ⌝ }
 {
-    ((x / 4294967296 * 633 + x % 4294967296) % 1024) as usize
+    let i = x % 4294967296;
+    ((x / 4294967296 * 633 + (i + i / 1024)) % 1024) as usize
 }
 
 // Where the guess for the spot x stands: by its backing, and by the block of 2^shift indices that it lies in.

@@ -14,16 +14,19 @@ use Rattle.seek.proofs.frame_of.Statement.{statement}
 use Rattle.seek.proofs.frame_of.Tie as tie
 
 abbrev Inv-loop : tie.InvT-loop
-Inv-loop sheet links backing index key k₀ k = Walk (drop 1024 links) (lacks (storeOf sheet .places) backing index) (storeOf sheet .frames) k
+Inv-loop sheet links backing index i key k₀ k = Walk (drop 1024 links) (lacks (storeOf sheet .places) backing index) (storeOf sheet .frames) k
 
 abbrev μ-loop : tie.MeasureT-loop
-μ-loop sheet links backing index key k₀ k = k
+μ-loop sheet links backing index i key k₀ k = k
 
 mul-key : tie.Need-mul-key Inv-loop μ-loop
 mul-key c = search needs
 
 add-key : tie.Need-add-key Inv-loop μ-loop
 add-key c = search needs
+
+add-key-2 : tie.Need-add-key-2 Inv-loop μ-loop
+add-key-2 c = search needs
 
 mul-k : tie.Need-mul-k Inv-loop μ-loop
 mul-k c = search needs
@@ -53,8 +56,8 @@ place-requires c κs = search needs
 stands-at-requires : tie.Need-stands-at-requires Inv-loop μ-loop
 stands-at-requires c κs = search needs
 
-sub-t17 : tie.Need-sub-t17 Inv-loop μ-loop
-sub-t17 c = search needs
+sub-t19 : tie.Need-sub-t19 Inv-loop μ-loop
+sub-t19 c = search needs
 
 returns : tie.Need-returns Inv-loop μ-loop
 returns c =
@@ -115,6 +118,7 @@ frame-of-spec =
     μ-loop
     mul-key
     add-key
+    add-key-2
     mul-k
     element-copy-out-k
     cast-k
@@ -122,7 +126,7 @@ frame-of-spec =
     sub-place
     place-requires
     stands-at-requires
-    sub-t17
+    sub-t19
     returns
     add-k
     mul-k-2

@@ -11,10 +11,10 @@ use Rattle.writing.proofs.guess.Statement.{statement}
 use Rattle.writing.proofs.guess.Tie as tie
 
 abbrev Inv-loop : tie.InvT-loop
-Inv-loop sheet links backing index n key k₀ turns₀ k turns = n ≡ storeOf sheet .frames
+Inv-loop sheet links backing index n i key k₀ turns₀ k turns = n ≡ storeOf sheet .frames
 
 abbrev μ-loop : tie.MeasureT-loop
-μ-loop sheet links backing index n key k₀ turns₀ k turns = turns
+μ-loop sheet links backing index n i key k₀ turns₀ k turns = turns
 
 frames-requires : tie.Need-frames-requires Inv-loop μ-loop
 frames-requires c κs = search needs
@@ -24,6 +24,9 @@ mul-key c = search needs
 
 add-key : tie.Need-add-key Inv-loop μ-loop
 add-key c = search needs
+
+add-key-2 : tie.Need-add-key-2 Inv-loop μ-loop
+add-key-2 c = search needs
 
 mul-wide : tie.Need-mul-wide Inv-loop μ-loop
 mul-wide c = search needs
@@ -96,6 +99,7 @@ guess-spec =
     frames-requires
     mul-key
     add-key
+    add-key-2
     mul-wide
     element-copy-out-wide
     wide-requires
