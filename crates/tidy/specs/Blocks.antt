@@ -1,5 +1,5 @@
 -- Ranges by blocks of indices: each block that a range's window meets has an entry, and a spot is looked for among the entries of its block.
-use mathlib.Core.Path.{_≡_, refl, sym, ap, _∙_}
+use mathlib.Core.Path.{_≡_, sym, ap, _∙_}
 use mathlib.Core.Bool.{Bool, true, false, _&&_, false≢true}
 use mathlib.Core.List.{List}
 use Prim.Native.Nat.{ℕ, _+_, _-_, _*_, _/_, _%_, _^_, _≤_, _<_}
@@ -89,9 +89,6 @@ module _ (x s : ℕ) (u : x < 18446744073709551616) where
 
 -- ---- entries of one range
 module _ (ks₀ os₀ : List ℕ) (e i b k : ℕ) where
-  pub put-none : Put ks₀ os₀ ks₀ os₀ e i b k 0
-  put-none = record { keys = λ d h. refl; owners = λ d h. refl; key = λ d h. absurd (omega arith); owner = λ d h. absurd (omega arith) }
-
   pub put-next : (ks os : List ℕ) (n : ℕ) → e + n < length ks → e + n < length os → Put ks₀ os₀ ks os e i b k n
       → Put ks₀ os₀ (set ks (e + n) (keyOf b (k + n))) (set os (e + n) i) e i b k (n + 1)
   put-next ks os n u v P = record {
@@ -137,6 +134,7 @@ module _ (ts xs ks os : List ℕ) (s m e : ℕ) (E : Entered ts xs ks os s m e) 
           (λ l. let z : e + (d - e) ≡ d = omega arith in omega (arith, rw z at (P .owner (d - e) (omega arith))))
 
 -- ---- the walk along the chain of a spot's block
+
 -- entry e has another key than h, or its range does not have x in its window
 abbrev pub passes : List ℕ → List ℕ → List ℕ → List ℕ → ℕ → ℕ → ℕ → Bool
 passes ts xs ks os h x e = pick (inChain (keyed ks) h e) (outsideAt ts xs x (getD os e 0)) true

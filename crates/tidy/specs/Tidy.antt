@@ -1,4 +1,4 @@
--- Trimming and vacating on a sheet: what the columns of its ranges tell, and one turn of each loop over its frames.
+-- Trimming on a sheet: what the columns of its ranges tell, one turn of each loop over its frames, and trimming that is left and taken up again.
 use mathlib.Core.Path.{_≡_, refl, sym, ap, ap₂, _∙_}
 use mathlib.Core.Bool.{true, not, _&&_, _||_}
 use mathlib.Core.List.{List, [], _∷_}
@@ -7,8 +7,8 @@ use native.Mathlib.Nat.{le-of-suc-le-suc, le-refl, not-suc-le-zero}
 use native.Mathlib.Omega.{arith}
 use lib.Dec.{eqb, leb, ltb}
 use lib.ListN.{drop, length, getD, take}
-use borrow.Author.Tests.{eqb-true, leb-true, ltb-true}
 use lib.Seq.{getD-take, set-getD}
+use borrow.Author.Tests.{eqb-true, leb-true, ltb-true}
 use Rattle.places.specs.declared.Place.{Place}
 use Rattle.store.specs.declared.Store.{Store}
 use Rattle.lists.specs.Test.{and-left, and-right, by-test}
@@ -42,6 +42,7 @@ pub record Told (s : Store) (n : ℕ) (ts xs l : List ℕ) : Type 0 where
   pub chained : Chained (keyed ts) n (take 1024 l) (drop 1024 l)
   pub long : Long ts xs l
 
+-- of a store's columns and chains as they are made
 pub told-by : (s : Store) (n : ℕ) (ts xs l : List ℕ) → s .count ≤ 512 → n ≡ s .count → Tags (s .ranges) n ts × Spans (s .ranges) n xs × (length ts ≡ 512) × (length xs ≡ 512)
     → Chained (keyed ts) n (take 1024 l) (drop 1024 l) × (length l ≡ 2048) → Told s n ts xs l
 told-by s n ts xs l b e d c =
@@ -52,7 +53,7 @@ module _ (w ts xs l : List ℕ) (L : Long ts xs l) where
   pub wide : length w ≡ 2579 → Wide (take 512 w) ts xs (take 1024 l) (take 1024 (drop 1024 l))
   wide h = record { lines = lines-long w h; tags = L .tags; spans = L .spans; heads = heads-long l (L .links); next = next-long l (L .links) }
 
-  -- the walk from the head of the chain of x
+  -- the walk from the head of the chain of spot x
   module _ (n hint x : ℕ) (H : Hinted ts (take 1024 l) (drop 1024 l) n hint) where
     pub head-here : getD l (x / 4294967296 % 1024) 0 ≤ n
     head-here = head-le (keyed ts) l n (x / 4294967296 % 1024) (omega arith) (H .chained)
@@ -90,6 +91,7 @@ module _ (g : Place → Place) (S T : Store) (f : ℕ) (h : f < length (S .place
   turn-keep z = turn-set T (placeAt (T .places) f) (sym z) (ap (λ l. withPlaces l T) (sym (set-getD (T .places) f nowhere)))
 
 -- ---- the place that trimming keeps
+
 -- a free frame's place stays
 kept-zero : (rs : List Range) (p : Place) (x : ℕ) → Spot p x → x ≡ 0 → keptPlace rs p ≡ p
 kept-zero rs p x P h =
@@ -138,22 +140,19 @@ module _ (w : List ℕ) (T : Store) (f x : ℕ) (h : f < 1024) (e : Trimmed (sto
   in-store : f < length (storeOf w .places)
   in-store = omega (arith, storeOf-sized w .places)
 
-  g : Place → Place
+  abbrev g : Place → Place
   g = keptPlace (rangesOf (used (storeOf w)))
 
   stays : g (placeAt (T .places) f) ≡ placeAt (T .places) f → Trimmed (storeOf w) (f + 1) T
-  unfolding g
   stays z = turn-keep g (storeOf w) T f in-store e z
 
   -- the frame is free
   pub turn-free : x ≡ 0 → Trimmed (storeOf w) (f + 1) T
-  unfolding g
   turn-free z = stays (kept-zero (rangesOf (used (storeOf w))) (placeAt (T .places) f) x P z)
 
   module _ (n : ℕ) (ts xs l : List ℕ) (D : Told (storeOf w) n ts xs l) where
     -- it is free, or stands in the window that was found last
     pub turn-known : (low high : ℕ) → Seen ts xs (take 1024 l) low high → (eqb x 0 || (leb low x && ltb x high)) ≡ true → Trimmed (storeOf w) (f + 1) T
-    unfolding g
     turn-known low high W u =
         by-test (eqb x 0)
         (λ t. turn-free (eqb-true x 0 t))
@@ -165,12 +164,10 @@ module _ (w : List ℕ) (T : Store) (f x : ℕ) (h : f < 1024) (e : Trimmed (sto
 
     -- a window is met
     pub turn-some : (r : ℕ) → Met ts xs (take 1024 l) (drop 1024 l) n x r → (r ≡ 0 → ⊥) → Trimmed (storeOf w) (f + 1) T
-    unfolding g
     turn-some r M z = stays (met-some (storeOf w) (storeOf-sized w .ranges) n ts xs l D (placeAt (T .places) f) x P r M z)
 
     -- none is met: the frame is cleared
     pub turn-none : (r : ℕ) → Met ts xs (take 1024 l) (drop 1024 l) n x r → r ≡ 0 → (U : Store) → U ≡ withPlace f nowhere T → Trimmed (storeOf w) (f + 1) U
-    unfolding g
     turn-none r M z U u =
         turn-set g (storeOf w) T f in-store e U nowhere (met-none (storeOf w) (storeOf-sized w .ranges) n ts xs l D (placeAt (T .places) f) x P r M z) u
 
@@ -178,6 +175,7 @@ module _ (w : List ℕ) (T : Store) (f x : ℕ) (h : f < 1024) (e : Trimmed (sto
 pub trimmed-none : (S : Store) → Trimmed S 0 S
 trimmed-none S = ap (λ l. withPlaces l S) (mapped-none (keptPlace (rangesOf (used S))) (S .places))
 
+-- done again up to n, where the first f were done
 mapped-again : (g : Place → Place) → ((p : Place) → g (g p) ≡ g p) → (l : List Place) (f n : ℕ) → f ≤ n → mapped g (mapped g l f) n ≡ mapped g l n
 unfolding mapped
 mapped-again g i [] zero n h = refl

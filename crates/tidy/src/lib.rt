@@ -1,13 +1,15 @@
 // TRIMMING ON A SHEET: places in no window go, with the sheet lent and each frame looked at once.
 use places::Place;
 ghost use mathlib.Core.Path.{_≡_};
+ghost use mathlib.Core.Bool.{_&&_, _||_};
 ghost use Prim.Native.Nat.{ℕ, _+_, _≤_, _<_};
+ghost use lib.Dec.{eqb, leb, ltb};
 ghost use lib.ListN.{drop, length, take};
 ghost use Rattle.table.specs.Table.{rangesOf};
+ghost use Rattle.places.specs.Places.{nowhere, placeAt};
 ghost use Rattle.columns.specs.Ranges.{Spans, Tags};
 ghost use Rattle.store.specs.Abs.{used};
 ghost use Rattle.store.specs.Edits.{trimmed};
-ghost use Rattle.places.specs.Places.{nowhere, placeAt};
 ghost use Rattle.sheet.specs.Sheet.{storeOf, withPlace, withPlaces};
 ghost use Rattle.sound_places.specs.Windows.{Falls, Found, Hinted, Met};
 ghost use Rattle.tidy.specs.Tidy.{Long, Spot, Told, Trimmed};
@@ -49,13 +51,13 @@ fn clear(sheet: &mut [u64; 2579], f: usize)
     sheet::set_place(sheet, f, p);
 }
 
-// What a search came to: a link, or 0, and how many of its steps are left. Where none is left it was given up.
+// What a search came to: a link, or 0, and how many steps are left. Where none is left it may have been given up.
 struct Walked {
     link: usize,
     steps: usize,
 }
 
-// The first link, from link k on along its chain, to a range that has the spot x in its window; or 0.
+// The first link, from link k on along its chain, to a range that has the spot x in its window; or 0. Each link that is passed costs a step.
 fn walk(tags: &[u64], spans: &[u64], next: &[u16], k: usize, x: u64, steps: usize) -> Walked
     requires { ⌜ (k ≤ 512) × Falls (now next) k × (length (now tags) ≡ 512) × (length (now spans) ≡ 512) × (length (now next) ≡ 1024) ⌝ }
     ensures { λ r. ⌜ (0 < r .steps → Found (now (tags .entry)) (now (spans .entry)) (now (next .entry)) x k (r .link)) × (steps ≤ r .steps + k) ⌝ }
@@ -112,9 +114,19 @@ fn looked_for(
     walk(tags, spans, &links[1024..2048], head, x, steps)
 }
 
-// From frame `from` on, each frame kept where it stands if a range has that in its window, else nowhere; those before are trimmed. It goes up to the frame at which the
-// steps are used up, which are enough for all frames if they are more than 524,288. The window that was found last, from spot `low` up to `high`, is looked at first,
-// and a frame's range is looked for from that of the frame before on.
+// Whether a frame at spot x stays, by what is known: it is free, or stands in the window from spot `low` up to `high`.
+fn known(x: u64, low: u64, high: u64) -> bool
+    ensures { λ q. ⌜ q ≡ (eqb x 0 || (leb low x && ltb x high)) ⌝ }
+{
+    if x == 0 {
+        return true;
+    }
+    (low <= x) & (x < high)
+}
+
+// Each frame kept where it stands if a range has that in its window, else nowhere: from frame `from` on, those before being done. The answer is the frame up to which that is
+// done: the last, or one at which no step was left; more than 524,288 steps are enough for all. The window that was found last, from spot `low` up to `high`, is looked at
+// first, and a frame's range is looked for from that of the frame before on.
 fn trim_along(
     sheet: &mut [u64; 2579],
     count: usize,
@@ -135,7 +147,7 @@ fn trim_along(
     let mut f: usize = from;
     while f < frames {
         let x = spot(sheet, f);
-        if (x == 0) | ((low <= x) & (x < high)) {
+        if known(x, low, high) {
             f += 1;
             continue;
         }
@@ -157,7 +169,7 @@ fn trim_along(
     f
 }
 
-// The key of a block of indices of backing b. Other blocks may have it too, which costs time alone.
+// The key of a block of indices of backing b. Blocks may share a key, which costs time alone.
 fn key_of(b: u64, block: u64) -> u64
     requires { ⌜ block ≤ 8589934592 ⌝ }
     ensures { λ h. ⌜ h ≡ keyOf b block ⌝ }
@@ -229,7 +241,7 @@ fn enter_all(
     e
 }
 
-// How many entries that are. It only serves to choose the blocks, so nothing is promised.
+// How many entries these are: of use to choose the size of blocks, so nothing is promised.
 fn total(spans: &[u64; 512], count: usize, shift: u64) -> u64
     requires { ⌜ (count ≤ 512) × (shift < 64) ⌝ }
 {
@@ -242,7 +254,7 @@ fn total(spans: &[u64; 512], count: usize, shift: u64) -> u64
     n
 }
 
-// Blocks of 2^s indices: the smallest of which there is room for an entry of each, if there are any.
+// The size of blocks as a power of 2: the smallest for which there is room for all entries, if there is one.
 fn shift_for(spans: &[u64; 512], count: usize) -> u64
     requires { ⌜ count ≤ 512 ⌝ }
     ensures { λ s. ⌜ s < 64 ⌝ }
@@ -281,7 +293,7 @@ fn owner_of(
     0
 }
 
-// The same as `trim_along` by entries of blocks, up to the last frame.
+// The frames from `from` on trimmed by entries of blocks.
 fn trim_by_blocks(
     sheet: &mut [u64; 2579],
     tags: &[u64; 512],
@@ -311,7 +323,7 @@ fn trim_by_blocks(
     }
 }
 
-// The frames from `from` on trimmed by entries of blocks; along the chains, however long that takes, where the ranges have too many blocks.
+// The frames from `from` on trimmed, by entries of blocks if there is room for these, else along the chains of backings, however long that takes.
 fn trim_rest(
     sheet: &mut [u64; 2579],
     count: usize,
@@ -336,7 +348,8 @@ fn trim_rest(
     trim_by_blocks(sheet, tags, spans, &owners, &chains, shift, from);
 }
 
-// "Entries in no holder's window go at once": the sheet trimmed, in time that grows with ranges and frames.
+// "Entries in no holder's window go at once": the sheet trimmed, in time that grows with ranges and frames. The chains of backings are gone along for 1,024
+// steps; frames that are left then are looked for by blocks.
 pub fn trim(sheet: &mut [u64; 2579])
     requires { ⌜ (length (now sheet) ≡ 2579) × (storeOf (now sheet) .frames ≤ 1024) × (storeOf (now sheet) .count ≤ 512) ⌝ }
     ensures { λ _. ⌜ (storeOf (now (sheet .exit)) ≡ withPlaces (trimmed (storeOf (now (sheet .entry)) .frames) (rangesOf (used (storeOf (now (sheet .entry))))) (storeOf (now (sheet .entry)) .places)) (storeOf (now (sheet .entry)))) × (length (now (sheet .exit)) ≡ 2579) ⌝ }

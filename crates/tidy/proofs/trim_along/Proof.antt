@@ -1,6 +1,6 @@
 -- `tidy::trim_along` meets its contract. The loop's invariant: the places of the first `f` frames are trimmed, `hint` is a link, and no frame took more than 512 steps. The
 -- measure is the number of frames left.
-use mathlib.Core.Path.{_≡_}
+use mathlib.Core.Path.{_≡_, sym, _∙_}
 use Prim.Native.Nat.{_+_, _*_, _-_, _≤_, _<_}
 use lib.ListN.{drop, length, take}
 use Rattle.sheet.specs.Sheet.{storeOf}
@@ -30,6 +30,9 @@ loop-holds c =
 spot-requires : tie.Need-spot-requires Inv-loop μ-loop
 spot-requires c κs = search needs
 
+known-requires : tie.Need-known-requires Inv-loop μ-loop
+known-requires c κs = search needs
+
 add-f : tie.Need-add-f Inv-loop μ-loop
 add-f c = search needs
 
@@ -38,10 +41,10 @@ loop-less c = search needs
 
 loop-again : tie.Need-loop-again Inv-loop μ-loop
 loop-again c =
-    let a = c .before .before .before .before .before .before .before .args in
-    let l = c .before .before .before .before .loop in
+    let a = c .before .before .before .before .before .before .before .before .args in
+    let l = c .before .before .before .before .before .loop in
     let h : l .f < 1024 = search needs in
-    (search needs, search needs, search needs, l .inv .3, l .inv .4, turn-known (a .sheet .now) (storeOf (l .sheet)) (l .f) _ h (l .inv .5) (c .before .spot .ensures) (a .count) (a .tags .now) (a .spans .now) (a .links .now) (c .before .before .before .before .before .before .before .pre .4) (l .low) (l .high) (l .inv .4) (c .if1 .taken))
+    (search needs, search needs, search needs, l .inv .3, l .inv .4, turn-known (a .sheet .now) (storeOf (l .sheet)) (l .f) _ h (l .inv .5) (c .before .before .spot .ensures) (a .count) (a .tags .now) (a .spans .now) (a .links .now) (c .before .before .before .before .before .before .before .before .pre .4) (l .low) (l .high) (l .inv .4) (sym (c .before .known .ensures) ∙ c .if1 .taken))
 
 looked-for-requires : tie.Need-looked-for-requires Inv-loop μ-loop
 looked-for-requires c κs = search needs
@@ -60,13 +63,13 @@ loop-less-2 c = search needs
 
 loop-again-2 : tie.Need-loop-again-2 Inv-loop μ-loop
 loop-again-2 c =
-    let a = c .before .before .before .before .before .before .before .before .before .before .before .before .before .before .before .before .before .before .args in
-    let l = c .before .before .before .before .before .before .before .before .before .before .before .before .before .before .before .loop in
+    let a = c .before .before .before .before .before .before .before .before .before .before .before .before .before .before .before .before .before .before .before .args in
+    let l = c .before .before .before .before .before .before .before .before .before .before .before .before .before .before .before .before .loop in
     let h : l .f < 1024 = search needs in
     let w = c .before .before .before .before .before .looked-for .ensures in
     let z = c .before .before .before .before .if2 .left in
     let m = w .0 (omega arith) in
-    (search needs, search needs, omega (arith, w .1, l .inv .2), l .inv .3, l .inv .4, turn-none (a .sheet .now) (storeOf (l .sheet)) (l .f) _ h (l .inv .5) (c .before .before .before .before .before .before .before .before .before .before .before .before .spot .ensures) (a .count) (a .tags .now) (a .spans .now) (a .links .now) (c .before .before .before .before .before .before .before .before .before .before .before .before .before .before .before .before .before .before .pre .4) _ m (c .before .before .if3 .taken) _ (c .clear .ensures .0))
+    (search needs, search needs, omega (arith, w .1, l .inv .2), l .inv .3, l .inv .4, turn-none (a .sheet .now) (storeOf (l .sheet)) (l .f) _ h (l .inv .5) (c .before .before .before .before .before .before .before .before .before .before .before .before .before .spot .ensures) (a .count) (a .tags .now) (a .spans .now) (a .links .now) (c .before .before .before .before .before .before .before .before .before .before .before .before .before .before .before .before .before .before .before .pre .4) _ m (c .before .before .if3 .taken) _ (c .clear .ensures .0))
 
 sub-window-start : tie.Need-sub-window-start Inv-loop μ-loop
 sub-window-start c = search needs
@@ -75,13 +78,13 @@ mul-window-start : tie.Need-mul-window-start Inv-loop μ-loop
 mul-window-start c =
     let z = c .before .before .if2 .left in
     let m = c .before .before .before .looked-for .ensures .0 (omega arith) in
-    omega (arith, m .low, c .before .before .before .before .before .before .before .before .before .before .before .before .before .before .before .before .pre .4 .few)
+    omega (arith, m .low, c .before .before .before .before .before .before .before .before .before .before .before .before .before .before .before .before .before .pre .4 .few)
 
 element-copy-out-window-start : tie.Need-element-copy-out-window-start Inv-loop μ-loop
 element-copy-out-window-start c =
     let z = c .before .before .if2 .left in
     let m = c .before .before .before .looked-for .ensures .0 (omega arith) in
-    omega (arith, m .low, c .before .before .before .before .before .before .before .before .before .before .before .before .before .before .before .before .pre .4 .few)
+    omega (arith, m .low, c .before .before .before .before .before .before .before .before .before .before .before .before .before .before .before .before .before .pre .4 .few)
 
 window-start-requires : tie.Need-window-start-requires Inv-loop μ-loop
 window-start-requires c κs = search needs
@@ -93,13 +96,13 @@ mul-window-end : tie.Need-mul-window-end Inv-loop μ-loop
 mul-window-end c =
     let z = c .before .before .before .before .if2 .left in
     let m = c .before .before .before .before .before .looked-for .ensures .0 (omega arith) in
-    omega (arith, m .low, c .before .before .before .before .before .before .before .before .before .before .before .before .before .before .before .before .before .before .pre .4 .few)
+    omega (arith, m .low, c .before .before .before .before .before .before .before .before .before .before .before .before .before .before .before .before .before .before .before .pre .4 .few)
 
 element-copy-out-window-end : tie.Need-element-copy-out-window-end Inv-loop μ-loop
 element-copy-out-window-end c =
     let z = c .before .before .before .before .if2 .left in
     let m = c .before .before .before .before .before .looked-for .ensures .0 (omega arith) in
-    omega (arith, m .low, c .before .before .before .before .before .before .before .before .before .before .before .before .before .before .before .before .before .before .pre .4 .few)
+    omega (arith, m .low, c .before .before .before .before .before .before .before .before .before .before .before .before .before .before .before .before .before .before .before .pre .4 .few)
 
 window-end-requires : tie.Need-window-end-requires Inv-loop μ-loop
 window-end-requires c κs = search needs
@@ -112,11 +115,11 @@ loop-less-3 c = search needs
 
 loop-again-3 : tie.Need-loop-again-3 Inv-loop μ-loop
 loop-again-3 c =
-    let a = c .before .before .before .before .before .before .before .before .before .before .before .before .before .before .before .before .before .before .before .before .args in
-    let l = c .before .before .before .before .before .before .before .before .before .before .before .before .before .before .before .before .before .loop in
+    let a = c .before .before .before .before .before .before .before .before .before .before .before .before .before .before .before .before .before .before .before .before .before .args in
+    let l = c .before .before .before .before .before .before .before .before .before .before .before .before .before .before .before .before .before .before .loop in
     let h : l .f < 1024 = search needs in
-    let p = c .before .before .before .before .before .before .before .before .before .before .before .before .before .before .before .before .before .before .before .before .pre .4 in
-    let x = c .before .before .before .before .before .before .before .before .before .before .before .before .before .before .spot .result in
+    let p = c .before .before .before .before .before .before .before .before .before .before .before .before .before .before .before .before .before .before .before .before .before .pre .4 in
+    let x = c .before .before .before .before .before .before .before .before .before .before .before .before .before .before .before .spot .result in
     let w = c .before .before .before .before .before .before .before .looked-for .ensures in
     let z = c .before .before .before .before .before .before .if2 .left in
     let n = c .before .before .before .before .if3 .left in
@@ -126,7 +129,7 @@ loop-again-3 c =
       omega (arith, w .1, l .inv .2),
       record { few = p .few; chained = p .chained; low = m .low },
       seen-met (a .tags .now) (a .spans .now) (take 1024 (a .links .now)) (drop 1024 (a .links .now)) (a .count) x (l .hint) (l .inv .3) _ (omega arith) m _ _ (c .before .before .window-start .ensures) (c .window-end .ensures),
-      turn-some (a .sheet .now) (storeOf (l .sheet)) (l .f) _ h (l .inv .5) (c .before .before .before .before .before .before .before .before .before .before .before .before .before .before .spot .ensures) (a .count) (a .tags .now) (a .spans .now) (a .links .now) (c .before .before .before .before .before .before .before .before .before .before .before .before .before .before .before .before .before .before .before .before .pre .4) _ m n,
+      turn-some (a .sheet .now) (storeOf (l .sheet)) (l .f) _ h (l .inv .5) (c .before .before .before .before .before .before .before .before .before .before .before .before .before .before .before .spot .ensures) (a .count) (a .tags .now) (a .spans .now) (a .links .now) (c .before .before .before .before .before .before .before .before .before .before .before .before .before .before .before .before .before .before .before .before .before .pre .4) _ m n,
     )
 
 returns-2 : tie.Need-returns-2 Inv-loop μ-loop
@@ -141,6 +144,7 @@ trim-along-spec =
     frames-requires
     loop-holds
     spot-requires
+    known-requires
     add-f
     loop-less
     loop-again
