@@ -305,7 +305,7 @@ fn few_aged(pool: &mut [u8], mode: u8) {
     cut_up(pool, 64, 19, 0, mode);
     cut_up(pool, 64, 19, 1, mode);
     cut_up(pool, 64, 19, 2, mode);
-    scattered(pool, 20, mode);
+    scattered(pool, 40, mode);
 }
 
 fn tried(pool: &mut [u8], mode: u8) {
