@@ -19,7 +19,7 @@ use Rattle.places.specs.Places.{frameAt, nowhere, placeAt, standsAt}
 use Rattle.places.specs.Found.{FirstAt, frame-found, frame-none}
 use Rattle.chains.specs.Chains.{inChain}
 use Rattle.chains.specs.Walk.{Walk, walk-all, walk-less, walk-next}
-use Rattle.sound_places.specs.Alone.{SpotChains, chain-used, chainAt, chainOf}
+use Rattle.sound_places.specs.Alone.{SpotChains, chain-used, chainAt, chainOf, chainTo}
 use Rattle.table.specs.Table.{Table}
 use Rattle.store.specs.Sound.{Sound}
 use Rattle.store.specs.Good.{sound-table}
@@ -120,13 +120,13 @@ module _ (w l : List ℕ) (b i : ℕ) (C : Framed w l) (few : storeOf w .frames 
   n = storeOf w .frames
 
   -- a frame outside of the chain of that place stands elsewhere
-  pub walk-frames : Walk (drop 1024 l) (lacks (storeOf w .places) b i) n (getD l ((b * 633 + (i + i / 1024)) % 1024) 0)
+  pub walk-frames : Walk (drop 1024 l) (lacks (storeOf w .places) b i) n (getD l (chainTo b i) 0)
   walk-frames =
       rw (← getD-take 1024 l h 0 (omega arith))
       (walk-all (chainAt (drop 1536 w)) (take 1024 l) (drop 1024 l) n (C .chains) (lacks (storeOf w .places) b i) h (omega arith) other)
     where
       h : ℕ
-      h = (b * 633 + (i + i / 1024)) % 1024
+      h = chainTo b i
 
       met : (x : ℕ) → 0 < x / 4294967296 % 4294967296 → x / 4294967296 % 4294967296 ≡ b → x % 4294967296 ≡ i → chainOf x ≡ h
       met x u p q = chain-used x (λ e. omega arith) ∙ rw q (same-chain (x / 4294967296) b (i + i / 1024) p)

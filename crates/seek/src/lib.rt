@@ -20,13 +20,12 @@ ghost use Rattle.seek.specs.Framed.{Charted, Framed, Lone};
 ghost use Rattle.seek.specs.Held.{Held, Numbered};
 
 // The frame that stands at this backing and index: a walk along the chain of that place.
-pub fn frame_of(sheet: &[u64; 2579], links: &[u16; 2048], backing: u32, index: u32) -> Frame
+fn frame_of(sheet: &[u64; 2579], links: &[u16; 2048], backing: u32, index: u32) -> Frame
     requires { ⌜ (Framed (now sheet) (now links)) × (storeOf (now sheet) .frames ≤ 1024) × Lone (storeOf (now sheet)) ⌝ }
     ensures { λ r. ⌜ r ≡ frameAt backing index 0 (take (storeOf (now (sheet .entry)) .frames) (storeOf (now (sheet .entry)) .places)) ⌝ }
 {
-    let i = index as usize;
-    let key = (backing as usize) * 633 + (i + i / 1024);
-    let mut k = links[key % 1024] as usize;
+    let h = sound_places::chain_to(backing as u64, index as u64);
+    let mut k = links[h] as usize;
     while 0 < k {
         let p = sheet::place(sheet, k - 1);
         if places::stands_at(p, backing, index) {
@@ -120,7 +119,7 @@ pub fn locate(sheet: &[u64; 2579], links: &[u16; 2048], g: usize) -> PageAt
 }
 
 // "A backing held by two or more ranges is shared.": a walk along the chain of the backing, until two are met.
-pub fn sharing(sheet: &[u64; 2579], holders: &[u16; 2048], backing: u32) -> State
+fn sharing(sheet: &[u64; 2579], holders: &[u16; 2048], backing: u32) -> State
     requires { ⌜ (Held (now sheet) (now holders)) × (storeOf (now sheet) .count ≤ 512) × (0 < backing) ⌝ }
     ensures { λ q. ⌜ q ≡ sharedIn (storeOf (now (sheet .entry))) backing ⌝ }
 {

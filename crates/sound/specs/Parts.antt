@@ -33,7 +33,7 @@ use Rattle.sound_ranges.specs.Shape.{lies?, shapedKind?, rises?, rises-parts}
 use Rattle.sound_places.specs.Bits.{below-both, kept?}
 use Rattle.sound_places.specs.Alone.{SpotChains, chainAt, chainOf}
 use Rattle.sound_places.specs.Seats.{seated?, seatedAt, seated-told}
-use Rattle.sound_places.specs.Windows.{walked?, walks-windows}
+use Rattle.windows.specs.Windows.{walked?, walks-windows}
 use Rattle.sound_places.specs.Words.{Short, placedAt?, span-word, spansOf, spot-word, spotsOf, tag-word, tagsOf}
 
 -- ---- the three parts of the test of a range

@@ -17,9 +17,13 @@ use Rattle.chains.specs.Walk.{Walk, walk-before}
 use Rattle.columns.specs.Columns.{spot-at, spotted}
 use Rattle.store.specs.Sound.{alone?, apart?}
 
--- the chain of a frame at spot x: a free frame, which is compared with none, is in no chain. Pages of a range may lie up to 16 apart: a thousand indices so are in a thousand chains
+-- the chain of the frames at index i of backing b, and of others. Pages of a range may lie up to 16 apart: a thousand indices so are in a thousand chains
+abbrev pub chainTo : ℕ → ℕ → ℕ
+chainTo b i = (b * 633 + (i + i / 1024)) % 1024
+
+-- the chain of a frame at spot x: a free frame, which is compared with none, is in no chain
 abbrev pub chainOf : ℕ → ℕ
-chainOf x = pick (eqb (x / 4294967296) 0) 1024 ((x / 4294967296 * 633 + (x % 4294967296 + x % 4294967296 / 1024)) % 1024)
+chainOf x = pick (eqb (x / 4294967296) 0) 1024 (chainTo (x / 4294967296) (x % 4294967296))
 
 -- the chain of frame f
 abbrev pub chainAt : List ℕ → ℕ → ℕ
@@ -33,7 +37,7 @@ module _ (x : ℕ) where
   pub chain-free : x / 4294967296 ≡ 0 → 1024 ≤ chainOf x
   chain-free e = rw (eq-eqb (x / 4294967296) 0 e) (omega arith)
 
-  pub chain-used : (x / 4294967296 ≡ 0 → ⊥) → chainOf x ≡ (x / 4294967296 * 633 + (x % 4294967296 + x % 4294967296 / 1024)) % 1024
+  pub chain-used : (x / 4294967296 ≡ 0 → ⊥) → chainOf x ≡ chainTo (x / 4294967296) (x % 4294967296)
   chain-used e = rw (ne-eqb (x / 4294967296) 0 e)
 
 -- frames that are free, d of them, are passed over

@@ -1,5 +1,5 @@
 pub mod Alone
-pub mod Windows
 pub mod Seats
 pub mod Bits
 pub mod Words
+pub mod Covered

@@ -21,7 +21,7 @@ use Rattle.chains.specs.Walk.{Walk, walk-all}
 use Rattle.columns.specs.Columns.{spot-at, spotted}
 use Rattle.columns.specs.Ranges.{Tag, Tags}
 use Rattle.store.specs.Sound.{isAt?, stands?}
-use Rattle.sound_places.specs.Alone.{chain-used, chainAt, SpotChains}
+use Rattle.sound_places.specs.Alone.{chain-used, chainAt, SpotChains, chainTo}
 
 -- of a backing of the table: n frames stand at the places ps
 abbrev pub seated? : ℕ → List Place → BackingPages → Bool
@@ -67,17 +67,18 @@ module _ (xs : List ℕ) (b f : ℕ) where
 
 module _ (xs hs ns : List ℕ) (n b : ℕ) (C : SpotChains xs n hs ns) (u : 0 < b) where
   -- a frame outside of the chain of that place stands elsewhere
-  pub walk-stands : Walk ns (missing xs b) n (getD hs (b * 633 % 1024) 0)
-  walk-stands = walk-all (chainAt xs) hs ns n C (missing xs b) (b * 633 % 1024) (omega arith) other
+  pub walk-stands : Walk ns (missing xs b) n (getD hs (chainTo b 0) 0)
+  walk-stands = walk-all (chainAt xs) hs ns n C (missing xs b) (chainTo b 0) (omega arith) other
     where
-      met : (j : ℕ) → getD xs j 0 ≡ b * 4294967296 → chainAt xs j ≡ b * 633 % 1024
+      met : (j : ℕ) → getD xs j 0 ≡ b * 4294967296 → chainAt xs j ≡ chainTo b 0
       met j e =
           let q = chain-used (getD xs j 0) (λ z. omega arith) in
-          let p : getD xs j 0 / 4294967296 * 633 + (getD xs j 0 % 4294967296 + getD xs j 0 % 4294967296 / 1024) ≡ b * 633 = omega arith in
-          q ∙ ap (λ (x : ℕ). x % 1024) p
+          let d : getD xs j 0 / 4294967296 ≡ b = omega arith in
+          let i : getD xs j 0 % 4294967296 ≡ 0 = omega arith in
+          q ∙ rw (d, i)
 
-      other : (j : ℕ) → j < n → inChain (chainAt xs) (b * 633 % 1024) j ≡ false → missing xs b j ≡ true
-      other j h o = spot-missing xs b j (λ e. false≢true (sym o ∙ eq-eqb (chainAt xs j) (b * 633 % 1024) (met j e)))
+      other : (j : ℕ) → j < n → inChain (chainAt xs) (chainTo b 0) j ≡ false → missing xs b j ≡ true
+      other j h o = spot-missing xs b j (λ e. false≢true (sym o ∙ eq-eqb (chainAt xs j) (chainTo b 0) (met j e)))
 
 -- ---- the tags tell the table's backings
 module _ (l : List PageRange) (ts : List ℕ) (n : ℕ) (m : n ≤ length l) (T : Tags l n ts) (ps : List Place) (k : ℕ) where

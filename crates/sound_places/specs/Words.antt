@@ -1,22 +1,22 @@
 -- The columns of a sheet, and what a frame's test needs of them.
 use mathlib.Core.Path.{_≡_, refl, sym, _∙_}
-use mathlib.Core.Bool.{Bool, true, false, not, _&&_, false≢true}
+use mathlib.Core.Bool.{Bool, true, false, not, _&&_}
 use mathlib.Core.List.{List, [], _∷_}
 use Prim.Native.Nat.{ℕ, _+_, _-_, _*_, _/_, _%_, _≤_, _<_, min}
 use native.Mathlib.Omega.{arith}
 use lib.Dec.{eqb, leb, ltb}
 use lib.ListN.{drop, getD, length, length-drop, length-replicate, length-set, replicate, set, take}
-use lib.Seq.{getD-drop, getD-set-other, getD-set-same, getD-take, length-take-le, take-all}
+use lib.Seq.{getD-drop, getD-set-other, getD-set-same, getD-take, length-take-le}
 use borrow.Author.Tests.{eq-eqb, eqb-true, le-leb, lt-leb, lt-ltb, le-ltb, ne-eqb}
-use Rattle.lists.specs.Test.{by-eq, by-lt, by-test}
-use Rattle.lists.specs.Every.{allBelow, at-below, below-at, true-both}
+use Rattle.lists.specs.Test.{by-eq, by-lt}
+use Rattle.lists.specs.Every.{allBelow, at-below, below-at, none-both, true-both}
 use Rattle.places.specs.Places.{placeAt}
 use Rattle.chains.specs.Chains.{Chained, head-le, keyed, linked-here, linked-next, linked-none}
 use Rattle.chains.specs.Walk.{Walk}
 use Rattle.columns.specs.Columns.{spot-at, spotted}
 use Rattle.store.specs.Sound.{alone?}
-use Rattle.sound_places.specs.Alone.{SpotChains, apartFrom, chain-used, chainAt, chained-free, spot-free, walk-alone}
-use Rattle.sound_places.specs.Windows.{Hinted, Met, Seen, Wide, met-by, outsideAt, seen-none, walked-free, walked?, windowIn}
+use Rattle.sound_places.specs.Alone.{SpotChains, apartFrom, chain-used, chainAt, chainTo, chained-free, spot-free, walk-alone}
+use Rattle.windows.specs.Windows.{Hinted, Met, Seen, Wide, heads-long, met-by, next-all, next-long, outsideAt, seen-none, walked-free, walked?, windowIn}
 use Rattle.sound_places.specs.Bits.{kept-word, kept?, word-free}
 
 -- where ranges begin, their offsets and lengths, their backings; where frames stand
@@ -54,11 +54,22 @@ pub record Ranged (w h : List ℕ) (n : ℕ) : Type 0 where
   pub chained : Chained (keyed (tagsOf w)) n (take 1024 h) (drop 1024 h)
   pub short : (i : ℕ) → i < n → Short w i
 
--- the window that was found last, its first spot and the one behind its last, a link to a range, and any number
+-- the window that was found last, its first spot and the one behind its last, a link to a range, and steps that are left
 pub record Looked (w h : List ℕ) (n : ℕ) (s : List ℕ) : Type 0 where
   pub long : length s ≡ 4
   pub seen : Seen (tagsOf w) (spansOf w) (take 1024 h) (getD s 0 0) (getD s 1 0)
   pub low : getD s 2 0 ≤ n
+  pub left : 0 < getD s 3 0
+
+-- the spot x lies in the window of a range of its chain
+abbrev pub inWindow? : List ℕ → List ℕ → ℕ → Bool
+inWindow? w h x = not (allBelow (outsideAt (tagsOf w) (spansOf w) x) (getD (take 1024 h) (x / 4294967296 % 1024) 0))
+
+-- q answers that, and s is what was found last; where no step is left, no says nothing
+pub record Answered (w h : List ℕ) (n x : ℕ) (s : List ℕ) (q : Bool) : Type 0 where
+  pub yes : q ≡ true → inWindow? w h x ≡ true
+  pub no : q ≡ false → 0 < getD s 3 0 → inWindow? w h x ≡ false
+  pub looked : q ≡ true → Looked w h n s
 
 -- the window of the range at link r is noted
 pub record Noted (w : List ℕ) (r : ℕ) (v s : List ℕ) : Type 0 where
@@ -66,10 +77,17 @@ pub record Noted (w : List ℕ) (r : ℕ) (v s : List ℕ) : Type 0 where
   pub first : getD s 0 0 ≡ getD (tagsOf w) (r - 1) 0 % 4294967296 * 4294967296 + getD (spansOf w) (r - 1) 0 / 4294967296
   pub end : getD s 1 0 ≡ getD s 0 0 + getD (spansOf w) (r - 1) 0 % 4294967296
   pub link : getD s 2 0 ≡ getD v 2 0
+  pub left : getD s 3 0 ≡ getD v 3 0
 
 -- "Each frame .. stands in exactly one backing at one index, no two at the same", and "lies in the window of some range that holds the vector": of frame f
 abbrev pub placedAt? : List ℕ → List ℕ → ℕ → Bool
 placedAt? w h f = alone? (spotted (spotsOf w)) f && walked? (tagsOf w) (spansOf w) (take 1024 h) (placeAt (spotted (spotsOf w)) f)
+
+-- frame f does not pass, or, where no step is left, the frames before it are chained
+pub record Stopped (w h : List ℕ) (f : ℕ) (l s : List ℕ) : Type 0 where
+  pub fails : 0 < getD s 3 0 → placedAt? w h f ≡ false
+  pub frames : getD s 3 0 ≡ 0 → SpotChains (spotsOf w) f (take 1024 l) (drop 1024 l)
+  pub links : getD s 3 0 ≡ 0 → length l ≡ 2048
 
 -- the first f frames are chained, and a window was found last
 pub record Seated (w h : List ℕ) (n f : ℕ) (l s : List ℕ) : Type 0 where
@@ -90,16 +108,6 @@ module _ (w : List ℕ) (long : length w ≡ 2579) where
 
   pub spots-long : length (spotsOf w) ≡ 1024
   spots-long = length-take-le 1024 (drop 1536 w) (simp length-drop (omega arith))
-
-module _ (l : List ℕ) (long : length l ≡ 2048) where
-  pub next-all : take 1024 (drop 1024 l) ≡ drop 1024 l
-  next-all = take-all 1024 (drop 1024 l) (simp length-drop (omega arith))
-
-  pub heads-long : length (take 1024 l) ≡ 1024
-  heads-long = length-take-le 1024 l (omega arith)
-
-  pub next-long : length (take 1024 (drop 1024 l)) ≡ 1024
-  next-long = length-take-le 1024 (drop 1024 l) (simp length-drop (omega arith))
 
 -- ---- a window as two bounds
 module _ (t x : ℕ) (o : x / 4294967296 + x % 4294967296 ≤ 1048576) (y : ℕ) where
@@ -161,13 +169,15 @@ module _ (w v : List ℕ) (r : ℕ) (u : 0 < r) (b : r ≤ 512) where
         end = getD-set-same (set v 0 first) 1 (first + span % 4294967296) 0 (omega arith) ∙ rw (p, span-word w (r - 1) (omega arith));
         link =
             getD-set-other (set v 0 first) 1 2 (first + span % 4294967296) 0 (λ e. omega arith) ∙ getD-set-other v 0 2 first 0 (λ e. omega arith);
+        left =
+            getD-set-other (set v 0 first) 1 3 (first + span % 4294967296) 0 (λ e. omega arith) ∙ getD-set-other v 0 3 first 0 (λ e. omega arith);
       }
 
 -- ---- what is noted is found
 module _ (w h : List ℕ) (n : ℕ) (R : Ranged w h n) where
-  pub looked-noted : (r : ℕ) (v s : List ℕ) → 0 < r → r ≤ n → getD v 2 0 ≤ n → Noted w r v s → Looked w h n s
-  looked-noted r v s u l k N =
-      record { long = N .long; seen = record { met = met }; low = omega (arith, N .link) }
+  pub looked-noted : (r : ℕ) (v s : List ℕ) → 0 < r → r ≤ n → getD v 2 0 ≤ n → 0 < getD v 3 0 → Noted w r v s → Looked w h n s
+  looked-noted r v s u l k z N =
+      record { long = N .long; seen = record { met = met }; low = omega (arith, N .link); left = omega (arith, N .left) }
     where
       met : (y : ℕ) → getD s 0 0 ≤ y → y < getD s 1 0 → allBelow (outsideAt (tagsOf w) (spansOf w) y) (getD (take 1024 h) (y / 4294967296 % 1024) 0) ≡ false
       met y a b =
@@ -182,11 +192,10 @@ module _ (w h : List ℕ) (n : ℕ) (R : Ranged w h n) where
 
   -- a spot that lies in the window of a range lies in one of its chain
   pub window-met : (r x : ℕ) → 0 < r → r ≤ n → windowIn (getD (tagsOf w) (r - 1) 0) (getD (spansOf w) (r - 1) 0) (x / 4294967296) (x % 4294967296) ≡ true
-      → true ≡ not (allBelow (outsideAt (tagsOf w) (spansOf w) x) (getD (take 1024 h) (x / 4294967296 % 1024) 0))
+      → inWindow? w h x ≡ true
   window-met r x u l e = rw (met-by (tagsOf w) (spansOf w) (take 1024 h) (drop 1024 h) n (R .chained) x r u l e)
 
-  pub window-seen : (s : List ℕ) (x : ℕ) → Looked w h n s → getD s 0 0 ≤ x → x < getD s 1 0
-      → true ≡ not (allBelow (outsideAt (tagsOf w) (spansOf w) x) (getD (take 1024 h) (x / 4294967296 % 1024) 0))
+  pub window-seen : (s : List ℕ) (x : ℕ) → Looked w h n s → getD s 0 0 ≤ x → x < getD s 1 0 → inWindow? w h x ≡ true
   window-seen s x L a b = rw (L .seen .met x a b)
 
   -- ranges are looked for along their chains
@@ -205,13 +214,12 @@ module _ (w h : List ℕ) (n : ℕ) (R : Ranged w h n) where
   pub head-range : (x : ℕ) → getD h (x / 4294967296 % 1024) 0 ≤ n
   head-range x = head-le (keyed (tagsOf w)) h n (x / 4294967296 % 1024) (omega arith) (R .chained)
 
-  pub window-none : (x r : ℕ) → Met (tagsOf w) (spansOf w) (take 1024 h) (take 1024 (drop 1024 h)) n x r → r ≡ 0
-      → false ≡ not (allBelow (outsideAt (tagsOf w) (spansOf w) x) (getD (take 1024 h) (x / 4294967296 % 1024) 0))
+  pub window-none : (x r : ℕ) → Met (tagsOf w) (spansOf w) (take 1024 h) (take 1024 (drop 1024 h)) n x r → r ≡ 0 → inWindow? w h x ≡ false
   window-none x r M e = rw (M .none e)
 
 -- ---- a frame in use is put into its chain
 module _ (w l : List ℕ) (f : ℕ) (b : f < 1024) (u : 0 < getD (spotsOf w) f 0 / 4294967296) (long : length l ≡ 2048) (C : SpotChains (spotsOf w) f (take 1024 l) (drop 1024 l)) (h : ℕ)
-    (e : h ≡ (getD w (1536 + f) 0 / 4294967296 * 633 + (getD w (1536 + f) 0 % 4294967296 + getD w (1536 + f) 0 % 4294967296 / 1024)) % 1024) where
+    (e : h ≡ chainTo (getD w (1536 + f) 0 / 4294967296) (getD w (1536 + f) 0 % 4294967296)) where
   abbrev m : List ℕ
   m = set (set l (1024 + f) (getD l h 0)) h (f + 1)
 
@@ -233,16 +241,22 @@ module _ (w l : List ℕ) (f : ℕ) (b : f < 1024) (u : 0 < getD (spotsOf w) f 0
       let q = linked-here l f h (getD l h 0) (f + 1) long b (omega arith) in
       rw q at W
 
--- what the tests of a frame in use say
-module _ (w h : List ℕ) (f : ℕ) (b : f < 1024) where
-  pub placed-shared : false ≡ alone? (spotted (spotsOf w)) f → false ≡ placedAt? w h f
-  placed-shared e = rw (sym e)
+and-true : (q : Bool) → (q && true) ≡ q
+and-true true = refl
+and-true false = refl
 
-  pub placed-alone : 0 < getD (spotsOf w) f 0 / 4294967296 → (q : Bool) → true ≡ alone? (spotted (spotsOf w)) f
-      → q ≡ not (allBelow (outsideAt (tagsOf w) (spansOf w) (getD w (1536 + f) 0)) (getD (take 1024 h) (getD w (1536 + f) 0 / 4294967296 % 1024) 0)) → q ≡ placedAt? w h f
-  placed-alone u q e p =
+-- what the tests of a frame in use say
+module _ (w h : List ℕ) (f : ℕ) (b : f < 1024) (u : 0 < getD (spotsOf w) f 0 / 4294967296) where
+  placed-is : placedAt? w h f ≡ (alone? (spotted (spotsOf w)) f && inWindow? w h (getD w (1536 + f) 0))
+  placed-is =
       let z : eqb (getD (spotsOf w) f 0 / 4294967296) 0 ≡ false = ne-eqb (getD (spotsOf w) f 0 / 4294967296) 0 (λ e. omega arith) in
-      rw (sym e, spot-at (spotsOf w) f, z, spot-word w f b) p
+      rw (spot-at (spotsOf w) f, z, spot-word w f b)
+
+  pub placed-by : inWindow? w h (getD w (1536 + f) 0) ≡ true → (q : Bool) → q ≡ alone? (spotted (spotsOf w)) f → placedAt? w h f ≡ q
+  placed-by e q p = placed-is ∙ rw (e, ← p) (and-true q)
+
+  pub placed-outside : inWindow? w h (getD w (1536 + f) 0) ≡ false → placedAt? w h f ≡ false
+  placed-outside e = placed-is ∙ rw e (none-both (alone? (spotted (spotsOf w)) f))
 
 -- ---- frames that are free pass, and are in no chain
 module _ (w h : List ℕ) (f e : ℕ) (b : f ≤ e) (free : (g : ℕ) → f ≤ g → g < e → getD (spotsOf w) g 0 / 4294967296 ≡ 0) where
@@ -277,13 +291,9 @@ free-word n xs ws i h e q g l u =
     omega arith
 
 -- no frame is chained, and no window was found
-pub seated-none : (w h : List ℕ) (n : ℕ) → Seated w h n 0 (replicate 2048 0) (0 ∷ 0 ∷ 0 ∷ 4 ∷ [])
+pub seated-none : (w h : List ℕ) (n : ℕ) → Seated w h n 0 (replicate 2048 0) (0 ∷ 0 ∷ 0 ∷ 640 ∷ [])
 seated-none w h n = record {
   frames = linked-none (chainAt (spotsOf w));
   links = length-replicate {A = ℕ} 2048 0;
-  looked = record { long = refl; seen = seen-none (tagsOf w) (spansOf w) (take 1024 h); low = omega arith };
+  looked = record { long = refl; seen = seen-none (tagsOf w) (spansOf w) (take 1024 h); low = omega arith; left = omega arith };
 }
-
--- a test that fails of the numbers below k fails of those below n
-pub below-low : (P : ℕ → Bool) (k n : ℕ) → k ≤ n → allBelow P k ≡ false → false ≡ allBelow P n
-below-low P k n l f = by-test (allBelow P n) (λ t. absurd (false≢true (sym f ∙ at-below P k (λ j m. below-at P n t j (omega arith))))) (λ t. sym t)

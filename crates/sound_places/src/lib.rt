@@ -2,192 +2,23 @@
 // Any columns may come in; chains must be those of the columns.
 ghost use mathlib.Core.Path.{_≡_};
 ghost use mathlib.Core.Bool.{true, false, not, _&&_};
-ghost use Prim.Native.Nat.{ℕ, _+_, _-_, _*_, _/_, _%_, _≤_, _<_, max, min};
-ghost use lib.Dec.{leb, ltb, eqb};
+ghost use mathlib.Core.List.{List};
+ghost use Prim.Native.Nat.{ℕ, _+_, _-_, _*_, _/_, _%_, _≤_, _<_, min};
+ghost use lib.Dec.{ltb, eqb};
 ghost use lib.ListN.{drop, getD, length, replicate, take};
 ghost use Rattle.lists.specs.Test.{pick};
 ghost use Rattle.lists.specs.Every.{allBelow};
 ghost use Rattle.places.specs.Places.{placeAt};
 ghost use Rattle.chains.specs.Walk.{Walk};
 ghost use Rattle.columns.specs.Columns.{spotOf, spotted};
-ghost use Rattle.sound_places.specs.Alone.{apartFrom, SpotChains};
+ghost use Rattle.sound_places.specs.Alone.{apartFrom, chainTo, SpotChains};
 ghost use Rattle.sound_places.specs.Bits.{kept?, wordKept?};
-ghost use Rattle.sound_places.specs.Windows.{outsideAt, windowIn, Falls, Found, Hinted, Hit, Met, Wide};
+ghost use Rattle.windows.specs.Windows.{outsideAt, windowIn};
+ghost use Rattle.intervals.specs.Intervals.{Cover};
 ghost use Rattle.sound_places.specs.Seats.{seatedAt};
-ghost use Rattle.sound_places.specs.Words.{placedAt?, spansOf, spotsOf, tagsOf, Looked, Noted, Ranged, Seated, Short};
+ghost use Rattle.sound_places.specs.Words.{placedAt?, spansOf, spotsOf, tagsOf, Answered, Looked, Noted, Ranged, Seated, Short, Stopped};
+ghost use Rattle.sound_places.specs.Covered.{Last};
 ghost use Rattle.store.specs.Sound.{alone?, idle?, bit?, same, stands?};
-
-// Whether the spot x lies in the window of a range, by its tag and its span.
-pub fn in_window(tag: u64, span: u64, x: u64) -> bool
-    ensures { λ q. ⌜ q ≡ windowIn tag span (x / 4294967296) (x % 4294967296) ⌝ }
-{
-    let offset = span / 4294967296;
-    let at = x % 4294967296;
-    (x / 4294967296 == tag % 4294967296) & ((offset <= at) & (at < offset + span % 4294967296))
-}
-
-// The first link, from link k on along its chain, to a range that has the spot x in its window; or 0.
-pub fn window_from(tags: &[u64], spans: &[u64], next: &[u16], k: usize, x: u64) -> usize
-    requires { ⌜ (k ≤ 512) × Falls (now next) k × (length (now tags) ≡ 512) × (length (now spans) ≡ 512) × (length (now next) ≡ 1024) ⌝ }
-    ensures { λ r. ⌜ Found (now (tags .entry)) (now (spans .entry)) (now (next .entry)) x k r ⌝ }
-{
-    let mut j: usize = k;
-    while 0 < j {
-        if in_window(tags[j - 1], spans[j - 1], x) {
-            return j;
-        }
-        j = next[j - 1] as usize;
-    }
-    0
-}
-
-// The link k, if it is one to a range that has the spot x in its window; else 0.
-pub fn hit(tags: &[u64], spans: &[u64], k: usize, x: u64) -> usize
-    requires { ⌜ (k ≤ 512) × (length (now tags) ≡ 512) × (length (now spans) ≡ 512) ⌝ }
-    ensures { λ r. ⌜ Hit (now (tags .entry)) (now (spans .entry)) x k r ⌝ }
-{
-    if 0 < k {
-        if in_window(tags[k - 1], spans[k - 1], x) {
-            return k;
-        }
-    }
-    0
-}
-
-// How many ranges begin at or before page g of the line, by halving: of use as a guess, so only its bound is promised.
-fn begun(lines: &[u64], count: usize, g: u64) -> usize
-    requires { ⌜ count ≤ length (now lines) ⌝ }
-    ensures { λ r. ⌜ r ≤ count ⌝ }
-{
-    let mut lo: usize = 0;
-    let mut hi: usize = count;
-    while lo < hi {
-        let mid = lo + (hi - lo) / 2;
-        if lines[mid] <= g {
-            lo = mid + 1;
-            continue;
-        }
-        hi = mid;
-    }
-    lo
-}
-
-// A link to a range that has the spot x in its window, or 0: pieces of one range keep page and index apart by the same number, so the piece is looked for at the
-// page that x would be of the range at link k.
-fn guess(lines: &[u64], tags: &[u64], spans: &[u64], count: usize, k: usize, x: u64) -> usize
-    requires { ⌜ (0 < k) × (k ≤ count) × (count ≤ 512) × (length (now lines) ≡ 512) × (length (now tags) ≡ 512) × (length (now spans) ≡ 512) ⌝ }
-    ensures { λ r. ⌜ Hit (now (tags .entry)) (now (spans .entry)) x count r ⌝ }
-{
-    let offset = spans[k - 1] / 4294967296;
-    let g = lines[k - 1] % 1152921504606846976 + x % 4294967296;
-    if offset <= g {
-        let j = begun(lines, count, g - offset);
-        return hit(tags, spans, j, x);
-    }
-    0
-}
-
-// The same beside link k: the next of its chain, then the range next but one in the table (between pieces of one range stand pages that were cut out).
-fn beside(tags: &[u64], spans: &[u64], next: &[u16], count: usize, k: usize, x: u64) -> usize
-    requires { ⌜ (k ≤ count) × (count ≤ 512) × Falls (now next) k × (length (now tags) ≡ 512) × (length (now spans) ≡ 512) × (length (now next) ≡ 1024) ⌝ }
-    ensures { λ r. ⌜ Hit (now (tags .entry)) (now (spans .entry)) x count r ⌝ }
-{
-    if k == 0 {
-        return 0;
-    }
-    let low = hit(tags, spans, next[k - 1] as usize, x);
-    if 0 < low {
-        return low;
-    }
-    if k + 2 <= count {
-        return hit(tags, spans, k + 2, x);
-    }
-    0
-}
-
-// The link to begin at: the hint, if it is one to a range of the spot's backing, else the head of the chain.
-fn begin_at(tags: &[u64], hint: usize, head: usize, x: u64) -> usize
-    requires { ⌜ (hint ≤ 512) × (length (now tags) ≡ 512) ⌝ }
-    ensures { λ r. ⌜ (r ≤ max hint head) × (0 < head → 0 < r) ⌝ }
-{
-    if 0 < hint {
-        if tags[hint - 1] % 4294967296 == x / 4294967296 {
-            return hint;
-        }
-    }
-    head
-}
-
-// A link to a range that has the spot x in its window, or 0 where a quick look finds none: at the head of the chain, beside the hint, then the guess.
-pub fn quick(
-    lines: &[u64],
-    tags: &[u64],
-    spans: &[u64],
-    heads: &[u16],
-    next: &[u16],
-    count: usize,
-    hint: usize,
-    x: u64,
-) -> usize
-    requires { ⌜ Hinted (now tags) (now heads) (now next) count hint × Wide (now lines) (now tags) (now spans) (now heads) (now next) ⌝ }
-    ensures { λ r. ⌜ Hit (now (tags .entry)) (now (spans .entry)) x count r ⌝ }
-{
-    let head = heads[(x / 4294967296 % 1024) as usize] as usize;
-    let first = hit(tags, spans, head, x);
-    if 0 < first {
-        return first;
-    }
-    let k = begin_at(tags, hint, head, x);
-    let r = beside(tags, spans, next, count, k, x);
-    if 0 < r {
-        return r;
-    }
-    if 0 < k {
-        return guess(lines, tags, spans, count, k, x);
-    }
-    0
-}
-
-// A link to a range that has the spot x in its window, or 0 where there is none, nothing having been found beside link k: the guess, then along the chain from its head.
-fn guessed(
-    lines: &[u64],
-    tags: &[u64],
-    spans: &[u64],
-    heads: &[u16],
-    next: &[u16],
-    count: usize,
-    k: usize,
-    x: u64,
-) -> usize
-    requires { ⌜ Hinted (now tags) (now heads) (now next) count k × Wide (now lines) (now tags) (now spans) (now heads) (now next) ⌝ }
-    ensures { λ r. ⌜ Met (now (tags .entry)) (now (spans .entry)) (now (heads .entry)) (now (next .entry)) count x r ⌝ }
-{
-    if 0 < k {
-        let r = guess(lines, tags, spans, count, k, x);
-        if 0 < r {
-            return r;
-        }
-    }
-    let head = heads[(x / 4294967296 % 1024) as usize] as usize;
-    window_from(tags, spans, next, head, x)
-}
-
-// The spots of the window of a range with this span, which has the spot x in it: from the first up to the last, and 0 if it reaches the next backing.
-pub fn window_start(x: u64, span: u64) -> u64
-    ensures { λ r. ⌜ r ≡ x - x % 4294967296 + span / 4294967296 ⌝ }
-{
-    x - x % 4294967296 + span / 4294967296
-}
-
-pub fn window_end(x: u64, span: u64) -> u64
-    ensures { λ r. ⌜ r ≡ pick (leb 4294967296 (span / 4294967296 + span % 4294967296)) 0 (x - x % 4294967296 + (span / 4294967296 + span % 4294967296)) ⌝ }
-{
-    let n = span / 4294967296 + span % 4294967296;
-    if 4294967296 <= n {
-        return 0;
-    }
-    x - x % 4294967296 + n
-}
 
 // The lesser of two numbers.
 fn least(a: usize, b: usize) -> usize
@@ -200,7 +31,7 @@ fn least(a: usize, b: usize) -> usize
 }
 
 // Whether the spot x lies in the window of the range at link r. If so, the window is noted as the one that was found last: `seen` has its first spot, the one behind its last,
-// a link to search from, and how many far searches are left before marks are made.
+// a link to search from, and how many steps searches have left.
 fn noted(sheet: &[u64], seen: &mut [u64; 4], r: usize, x: u64) -> bool
     requires { ⌜ (0 < r) × (r ≤ 512) × (length (now sheet) ≡ 2579) × Short (now sheet) (r - 1) × (length (now seen) ≡ 4) ⌝ }
     ensures { λ q. ⌜ (q ≡ windowIn (getD (tagsOf (now (sheet .entry))) (r - 1) 0) (getD (spansOf (now (sheet .entry))) (r - 1) 0) (x / 4294967296) (x % 4294967296)) × (q ≡ true → Noted (now (sheet .entry)) r (now (seen .entry)) (now (seen .exit))) × (q ≡ false → now (seen .exit) ≡ now (seen .entry)) ⌝ }
@@ -216,79 +47,41 @@ fn noted(sheet: &[u64], seen: &mut [u64; 4], r: usize, x: u64) -> bool
     false
 }
 
-// One less, down to 0.
-fn one_less(n: u64) -> u64 {
-    if 0 < n {
-        return n - 1;
-    }
-    0
-}
-
-// Whether a range has the spot x in its window, nothing having been found beside link k: a far search.
-fn far(sheet: &[u64], holders: &[u16], seen: &mut [u64; 4], count: usize, k: usize, x: u64) -> bool
-    requires { ⌜ Ranged (now sheet) (now holders) count × Looked (now sheet) (now holders) count (now seen) × (k ≤ count) ⌝ }
-    ensures { λ q. ⌜ (q ≡ not (allBelow (outsideAt (tagsOf (now (sheet .entry))) (spansOf (now (sheet .entry))) x) (getD (take 1024 (now (holders .entry))) (x / 4294967296 % 1024) 0))) × (q ≡ true → Looked (now (sheet .entry)) (now (holders .entry)) count (now (seen .exit))) ⌝ }
+// Whether a range has the spot x in its window: the range is searched for from the last that a search found. Where no step is left nothing is said.
+fn sought(sheet: &[u64], holders: &[u16], seen: &mut [u64; 4], count: usize, x: u64) -> bool
+    requires { ⌜ Ranged (now sheet) (now holders) count × Looked (now sheet) (now holders) count (now seen) ⌝ }
+    ensures { λ q. ⌜ Answered (now (sheet .entry)) (now (holders .entry)) count x (now (seen .exit)) q ⌝ }
 {
-    let r = guessed(
+    let w = windows::search(
         &sheet[0..512],
         &sheet[1024..1536],
         &sheet[512..1024],
         &holders[0..1024],
         &holders[1024..2048],
         count,
-        k,
+        seen[2] as usize,
         x,
+        seen[3] as usize,
     );
+    seen[3] = w.steps as u64;
+    let r = w.link;
     if r == 0 {
         return false;
     }
-    seen[3] = one_less(seen[3]);
     seen[2] = r as u64;
     noted(sheet, seen, r, x)
 }
 
-// Whether a range has the spot x in its window: the range is searched for from the last that a search found.
-fn sought(sheet: &[u64], holders: &[u16], seen: &mut [u64; 4], count: usize, x: u64) -> bool
+// The same. The window that was found last is looked at first, since frames of one backing often stand in one window; then that of the last range of the backing.
+fn windowed(sheet: &[u64], holders: &[u16], seen: &mut [u64; 4], count: usize, x: u64) -> bool
     requires { ⌜ Ranged (now sheet) (now holders) count × Looked (now sheet) (now holders) count (now seen) ⌝ }
-    ensures { λ q. ⌜ (q ≡ not (allBelow (outsideAt (tagsOf (now (sheet .entry))) (spansOf (now (sheet .entry))) x) (getD (take 1024 (now (holders .entry))) (x / 4294967296 % 1024) 0))) × (q ≡ true → Looked (now (sheet .entry)) (now (holders .entry)) count (now (seen .exit))) ⌝ }
-{
-    let hint = seen[2] as usize;
-    let head = holders[(x / 4294967296 % 1024) as usize] as usize;
-    let k = begin_at(&sheet[1024..1536], hint, head, x);
-    let r = beside(
-        &sheet[1024..1536],
-        &sheet[512..1024],
-        &holders[1024..2048],
-        count,
-        k,
-        x,
-    );
-    if 0 < r {
-        seen[2] = r as u64;
-        return noted(sheet, seen, r, x);
-    }
-    far(sheet, holders, seen, count, k, x)
-}
-
-// Whether a range has the spot x in its window. The window that was found last is looked at first, since frames of one backing often stand in one window; then that of
-// the range that the guess names, any number being a guess.
-fn windowed(
-    sheet: &[u64],
-    holders: &[u16],
-    guesses: &[u16],
-    seen: &mut [u64; 4],
-    count: usize,
-    at: usize,
-    x: u64,
-) -> bool
-    requires { ⌜ Ranged (now sheet) (now holders) count × Looked (now sheet) (now holders) count (now seen) × (length (now guesses) ≡ 1024) × (at < 1024) ⌝ }
-    ensures { λ q. ⌜ (q ≡ not (allBelow (outsideAt (tagsOf (now (sheet .entry))) (spansOf (now (sheet .entry))) x) (getD (take 1024 (now (holders .entry))) (x / 4294967296 % 1024) 0))) × (q ≡ true → Looked (now (sheet .entry)) (now (holders .entry)) count (now (seen .exit))) ⌝ }
+    ensures { λ q. ⌜ Answered (now (sheet .entry)) (now (holders .entry)) count x (now (seen .exit)) q ⌝ }
 {
     if (seen[0] <= x) & (x < seen[1]) {
         return true;
     }
-    let r = guesses[at] as usize;
-    if (0 < r) & (r <= count) {
+    let r = holders[(x / 4294967296 % 1024) as usize] as usize;
+    if 0 < r {
         if noted(sheet, seen, r, x) {
             return true;
         }
@@ -311,72 +104,144 @@ fn alone(sheet: &[u64], links: &[u16; 2048], f: usize, k: usize, x: u64) -> bool
     true
 }
 
-// The chain of the frames at spot x, and of others.
-fn chain_of(x: u64) -> usize
-    ensures { λ h. ⌜ h ≡ (x / 4294967296 * 633 + (x % 4294967296 + x % 4294967296 / 1024)) % 1024 ⌝ }
+// The chain of the frames at this place, and of others.
+pub fn chain_to(backing: u64, index: u64) -> usize
+    requires { ⌜ (backing < 4294967296) × (index < 4294967296) ⌝ }
+    ensures { λ h. ⌜ h ≡ chainTo backing index ⌝ }
 {
-    let i = x % 4294967296;
-    ((x / 4294967296 * 633 + (i + i / 1024)) % 1024) as usize
+    ((backing * 633 + (index + index / 1024)) % 1024) as usize
 }
 
-// Where the guess for the spot x stands: by its backing, and by the block of 2^shift indices that it lies in.
-fn guess_at(x: u64, m: u64, shift: u64) -> usize
-    requires { ⌜ (m ≤ 633) × (shift < 64) ⌝ }
-    ensures { λ r. ⌜ r < 1024 ⌝ }
+// "Each frame is free or stands in exactly one backing at one index, no two at the same": of frame f, which is in use, at spot x. It is put into its chain, before the frames
+// that it is compared with.
+fn linked(sheet: &[u64], links: &mut [u16; 2048], f: usize, x: u64) -> bool
+    requires { ⌜ (f < 1024) × (length (now sheet) ≡ 2579) × (x ≡ getD (now sheet) (1536 + f) 0) × (0 < x / 4294967296) × SpotChains (spotsOf (now sheet)) f (take 1024 (now links)) (drop 1024 (now links)) × (length (now links) ≡ 2048) ⌝ }
+    ensures { λ q. ⌜ (q ≡ alone? (spotted (spotsOf (now (sheet .entry)))) f) × SpotChains (spotsOf (now (sheet .entry))) (f + 1) (take 1024 (now (links .exit))) (drop 1024 (now (links .exit))) × (length (now (links .exit)) ≡ 2048) ⌝ }
 {
-    ((x / 4294967296 * m + (x % 4294967296 >> shift)) % 1024) as usize
-}
-
-// "Each frame is free or stands in exactly one backing at one index, no two at the same"; "each vector entry lies in the window of some range that holds the vector": of
-// frame f, which is in use. It is put into its chain, before the frames that it is compared with.
-fn seat(
-    sheet: &[u64],
-    holders: &[u16],
-    guesses: &[u16],
-    links: &mut [u16; 2048],
-    seen: &mut [u64; 4],
-    count: usize,
-    m: u64,
-    shift: u64,
-    f: usize,
-) -> bool
-    requires { ⌜ (length (now guesses) ≡ 1024) × (m ≤ 633) × (shift < 64) ⌝ }
-    requires { ⌜ (f < 1024) × (0 < getD (spotsOf (now sheet)) f 0 / 4294967296) × Ranged (now sheet) (now holders) count × Seated (now sheet) (now holders) count f (now links) (now seen) ⌝ }
-    ensures { λ q. ⌜ (q ≡ placedAt? (now (sheet .entry)) (now (holders .entry)) f) × (q ≡ true → Seated (now (sheet .entry)) (now (holders .entry)) count (f + 1) (now (links .exit)) (now (seen .exit))) ⌝ }
-{
-    let x = sheet[1536 + f];
-    let h = chain_of(x);
+    let h = chain_to(x / 4294967296, x % 4294967296);
     let k = links[h];
     links[1024 + f] = k;
     links[h] = (f as u16) + 1;
-    if alone(sheet, links, f, k as usize, x) {
-        let at = guess_at(x, m, shift);
-        return windowed(sheet, holders, guesses, seen, count, at, x);
+    alone(sheet, links, f, k as usize, x)
+}
+
+// The same, and "each vector entry lies in the window of some range that holds the vector": of frame f, which is in use. Where no step is left nothing is said, and nothing done.
+fn seat(
+    sheet: &[u64],
+    holders: &[u16],
+    links: &mut [u16; 2048],
+    seen: &mut [u64; 4],
+    count: usize,
+    f: usize,
+) -> bool
+    requires { ⌜ (f < 1024) × (0 < getD (spotsOf (now sheet)) f 0 / 4294967296) × Ranged (now sheet) (now holders) count × Seated (now sheet) (now holders) count f (now links) (now seen) ⌝ }
+    ensures { λ q. ⌜ (q ≡ true → (placedAt? (now (sheet .entry)) (now (holders .entry)) f ≡ true) × Seated (now (sheet .entry)) (now (holders .entry)) count (f + 1) (now (links .exit)) (now (seen .exit))) × (q ≡ false → Stopped (now (sheet .entry)) (now (holders .entry)) f (now (links .exit)) (now (seen .exit))) ⌝ }
+{
+    let x = sheet[1536 + f];
+    if windowed(sheet, holders, seen, count, x) {
+        return linked(sheet, links, f, x);
     }
     false
 }
 
-// The same of the frames in use from `first` up to `end`, those before having passed.
+// The same of the frames in use from `first` on, those before having passed: the frame up to which they pass, or `end`.
 fn seat_frames(
     sheet: &[u64],
     holders: &[u16],
-    guesses: &[u16],
     links: &mut [u16; 2048],
     seen: &mut [u64; 4],
     count: usize,
-    m: u64,
-    shift: u64,
     first: usize,
     end: usize,
-) -> bool
-    requires { ⌜ (length (now guesses) ≡ 1024) × (m ≤ 633) × (shift < 64) ⌝ }
+) -> usize
     requires { ⌜ (first ≤ end) × (end ≤ 1024) × Ranged (now sheet) (now holders) count × Seated (now sheet) (now holders) count first (now links) (now seen) × (allBelow (placedAt? (now sheet) (now holders)) first ≡ true) ⌝ }
-    ensures { λ q. ⌜ (q ≡ allBelow (placedAt? (now (sheet .entry)) (now (holders .entry))) end) × (q ≡ true → Seated (now (sheet .entry)) (now (holders .entry)) count end (now (links .exit)) (now (seen .exit))) ⌝ }
+    ensures { λ f. ⌜ (f ≤ end) × (allBelow (placedAt? (now (sheet .entry)) (now (holders .entry))) f ≡ true) × (f < end → Stopped (now (sheet .entry)) (now (holders .entry)) f (now (links .exit)) (now (seen .exit))) × (f ≡ end → Seated (now (sheet .entry)) (now (holders .entry)) count f (now (links .exit)) (now (seen .exit))) ⌝ }
 {
     let mut f: usize = first;
     while f < end {
         if 0 < sheet[1536 + f] / 4294967296 {
-            if seat(sheet, holders, guesses, links, seen, count, m, shift, f) {
+            if seat(sheet, holders, links, seen, count, f) {
+                f += 1;
+                continue;
+            }
+            return f;
+        }
+        f += 1;
+    }
+    f
+}
+
+// Whether a range has the spot x in its window, by the intervals that windows cover. The interval that was found last, from the first number of `last` up to the second, is
+// looked at first.
+fn covered(
+    lows: &[u64; 1024],
+    lasts: &[u64; 1024],
+    chains: &[u16; 2048],
+    sizes: &[u16; 512],
+    z: usize,
+    last: &mut [u64; 2],
+    x: u64,
+) -> bool
+    requires { ⌜ ((ts : List ℕ) × (xs : List ℕ) × (m : ℕ) × Cover ts xs (now lows) (now lasts) (now chains) (now sizes) z m) × Last (now lows) (now lasts) (now chains) (now sizes) z (now last) ⌝ }
+    ensures { λ q. ⌜ ((ts xs : List ℕ) (m : ℕ) → Cover ts xs (now (lows .entry)) (now (lasts .entry)) (now (chains .entry)) (now (sizes .entry)) z m → q ≡ not (allBelow (outsideAt ts xs x) m)) × Last (now (lows .entry)) (now (lasts .entry)) (now (chains .entry)) (now (sizes .entry)) z (now (last .exit)) ⌝ }
+{
+    if (last[0] <= x) & (x <= last[1]) {
+        return true;
+    }
+    let r = intervals::find(lows, lasts, chains, sizes, z, x);
+    if r == 0 {
+        return false;
+    }
+    last[0] = lows[r - 1];
+    last[1] = lasts[r - 1];
+    true
+}
+
+// Frame f, which is in use, as `seat` has it.
+fn seat_covered(
+    sheet: &[u64],
+    links: &mut [u16; 2048],
+    lows: &[u64; 1024],
+    lasts: &[u64; 1024],
+    chains: &[u16; 2048],
+    sizes: &[u16; 512],
+    z: usize,
+    last: &mut [u64; 2],
+    f: usize,
+) -> bool
+    requires { ⌜ (f < 1024) × (length (now sheet) ≡ 2579) × (0 < getD (spotsOf (now sheet)) f 0 / 4294967296) × SpotChains (spotsOf (now sheet)) f (take 1024 (now links)) (drop 1024 (now links)) × (length (now links) ≡ 2048) ⌝ }
+    requires { ⌜ ((ts : List ℕ) × (xs : List ℕ) × (m : ℕ) × Cover ts xs (now lows) (now lasts) (now chains) (now sizes) z m) × Last (now lows) (now lasts) (now chains) (now sizes) z (now last) ⌝ }
+    ensures { λ q. ⌜ ((h : List ℕ) (n : ℕ) → Ranged (now (sheet .entry)) h n → Cover (tagsOf (now (sheet .entry))) (spansOf (now (sheet .entry))) (now (lows .entry)) (now (lasts .entry)) (now (chains .entry)) (now (sizes .entry)) z n → q ≡ placedAt? (now (sheet .entry)) h f) × (q ≡ true → SpotChains (spotsOf (now (sheet .entry))) (f + 1) (take 1024 (now (links .exit))) (drop 1024 (now (links .exit))) × (length (now (links .exit)) ≡ 2048)) × Last (now (lows .entry)) (now (lasts .entry)) (now (chains .entry)) (now (sizes .entry)) z (now (last .exit)) ⌝ }
+{
+    let x = sheet[1536 + f];
+    if covered(lows, lasts, chains, sizes, z, last, x) {
+        return linked(sheet, links, f, x);
+    }
+    false
+}
+
+// The same of the frames in use from `first` on, those before having passed.
+fn seat_frames_covered(
+    sheet: &[u64],
+    links: &mut [u16; 2048],
+    lows: &[u64; 1024],
+    lasts: &[u64; 1024],
+    chains: &[u16; 2048],
+    sizes: &[u16; 512],
+    z: usize,
+    frames: usize,
+    first: usize,
+) -> bool
+    requires { ⌜ (first ≤ frames) × (frames ≤ 1024) × (length (now sheet) ≡ 2579) × SpotChains (spotsOf (now sheet)) first (take 1024 (now links)) (drop 1024 (now links)) × (length (now links) ≡ 2048) ⌝ }
+    requires { ⌜ ((ts : List ℕ) × (xs : List ℕ) × (m : ℕ) × Cover ts xs (now lows) (now lasts) (now chains) (now sizes) z m) ⌝ }
+    ensures { λ q. ⌜ ((h : List ℕ) (n : ℕ) → Ranged (now (sheet .entry)) h n → Cover (tagsOf (now (sheet .entry))) (spansOf (now (sheet .entry))) (now (lows .entry)) (now (lasts .entry)) (now (chains .entry)) (now (sizes .entry)) z n → allBelow (placedAt? (now (sheet .entry)) h) first ≡ true → q ≡ allBelow (placedAt? (now (sheet .entry)) h) frames) × (q ≡ true → SpotChains (spotsOf (now (sheet .entry))) frames (take 1024 (now (links .exit))) (drop 1024 (now (links .exit))) × (length (now (links .exit)) ≡ 2048)) ⌝ }
+{
+    let mut last = [0u64; 2];
+    last[0] = 1;
+    let mut f: usize = first;
+    while f < frames {
+        if 0 < sheet[1536 + f] / 4294967296 {
+            if seat_covered(sheet, links, lows, lasts, chains, sizes, z, &mut last, f) {
                 f += 1;
                 continue;
             }
@@ -387,136 +252,45 @@ fn seat_frames(
     true
 }
 
-// The same with the heads of the chains as guesses: nothing is left of an index.
-fn seat_heads(
-    sheet: &[u64],
-    holders: &[u16],
-    links: &mut [u16; 2048],
-    seen: &mut [u64; 4],
-    count: usize,
-    first: usize,
-    end: usize,
-) -> bool
-    requires { ⌜ (first ≤ end) × (end ≤ 1024) × Ranged (now sheet) (now holders) count × Seated (now sheet) (now holders) count first (now links) (now seen) × (allBelow (placedAt? (now sheet) (now holders)) first ≡ true) ⌝ }
-    ensures { λ q. ⌜ (q ≡ allBelow (placedAt? (now (sheet .entry)) (now (holders .entry))) end) × (q ≡ true → Seated (now (sheet .entry)) (now (holders .entry)) count end (now (links .exit)) (now (seen .exit))) ⌝ }
-{
-    seat_frames(
-        sheet,
-        holders,
-        &holders[0..1024],
-        links,
-        seen,
-        count,
-        1,
-        63,
-        first,
-        end,
-    )
-}
-
-// The sum of the lengths of the windows.
-fn sum_of(sheet: &[u64], count: usize) -> u64
-    requires { ⌜ (count ≤ 512) × (length (now sheet) ≡ 2579) ⌝ }
-{
-    let mut sum: u64 = 0;
-    let mut i: usize = 0;
-    while i < count {
-        sum += sheet[512 + i] % 4294967296;
-        i += 1;
-    }
-    sum
-}
-
-// The least shift that leaves no more than 2,048 blocks of the sum.
-fn shift_of(sum: u64) -> u64
-    ensures { λ r. ⌜ r < 64 ⌝ }
-{
-    let mut s: u64 = 0;
-    while s < 63 {
-        if sum >> s <= 2048 {
-            return s;
-        }
-        s += 1;
-    }
-    s
-}
-
-// Link r becomes n marks from `from` on, the first mark following the last.
-fn mark(marks: &mut [u16; 1024], r: u16, from: usize, n: usize)
-    requires { ⌜ (from < 1024) × (n ≤ 8589934592) × (length (now marks) ≡ 1024) ⌝ }
-    ensures { λ u. ⌜ length (now (marks .exit)) ≡ 1024 ⌝ }
-{
-    let mut j: usize = 0;
-    while j < n {
-        marks[(from + j) % 1024] = r;
-        j += 1;
-    }
-}
-
-// The marks of range i: one for each block of its window.
-fn mark_range(sheet: &[u64], marks: &mut [u16; 1024], i: usize, shift: u64)
-    requires { ⌜ (i < 512) × (shift < 64) × (length (now sheet) ≡ 2579) × (length (now marks) ≡ 1024) ⌝ }
-    ensures { λ u. ⌜ length (now (marks .exit)) ≡ 1024 ⌝ }
-{
-    let b = sheet[1024 + i] % 4294967296;
-    let span = sheet[512 + i];
-    let offset = span / 4294967296;
-    let length = span % 4294967296;
-    if 0 < length {
-        let first = offset >> shift;
-        let last = (offset + length - 1) >> shift;
-        let from = guess_at(b * 4294967296 + offset, 633, shift);
-        mark(marks, (i as u16) + 1, from, (last - first + 1) as usize);
-    }
-}
-
-// The marks of every range that has company in its chain.
-fn mark_all(sheet: &[u64], holders: &[u16], marks: &mut [u16; 1024], count: usize, shift: u64)
-    requires { ⌜ (count ≤ 512) × (shift < 64) × (length (now sheet) ≡ 2579) × (length (now holders) ≡ 2048) × (length (now marks) ≡ 1024) ⌝ }
-    ensures { λ u. ⌜ length (now (marks .exit)) ≡ 1024 ⌝ }
-{
-    let mut i: usize = 0;
-    while i < count {
-        let h = (sheet[1024 + i] % 1024) as usize;
-        if (holders[h] != (i as u16) + 1) | (0 < holders[1024 + i]) {
-            mark_range(sheet, marks, i, shift);
-        }
-        i += 1;
-    }
-}
-
-// The same of the frames from `first` on, with marks as guesses.
+// The same, with the intervals made.
 fn seat_rest(
     sheet: &[u64],
-    holders: &[u16],
     links: &mut [u16; 2048],
-    seen: &mut [u64; 4],
     count: usize,
     frames: usize,
     first: usize,
 ) -> bool
-    requires { ⌜ (first ≤ frames) × (frames ≤ 1024) × Ranged (now sheet) (now holders) count × Seated (now sheet) (now holders) count first (now links) (now seen) × (allBelow (placedAt? (now sheet) (now holders)) first ≡ true) ⌝ }
-    ensures { λ q. ⌜ (q ≡ allBelow (placedAt? (now (sheet .entry)) (now (holders .entry))) frames) × (q ≡ true → Seated (now (sheet .entry)) (now (holders .entry)) count frames (now (links .exit)) (now (seen .exit))) ⌝ }
+    requires { ⌜ (first ≤ frames) × (frames ≤ 1024) × (count ≤ 512) × (length (now sheet) ≡ 2579) × SpotChains (spotsOf (now sheet)) first (take 1024 (now links)) (drop 1024 (now links)) × (length (now links) ≡ 2048) ⌝ }
+    ensures { λ q. ⌜ ((h : List ℕ) → Ranged (now (sheet .entry)) h count → allBelow (placedAt? (now (sheet .entry)) h) first ≡ true → q ≡ allBelow (placedAt? (now (sheet .entry)) h) frames) × (q ≡ true → SpotChains (spotsOf (now (sheet .entry))) frames (take 1024 (now (links .exit))) (drop 1024 (now (links .exit))) × (length (now (links .exit)) ≡ 2048)) ⌝ }
 {
-    let mut marks = [0u16; 1024];
-    let shift = shift_of(sum_of(sheet, count));
-    mark_all(sheet, holders, &mut marks, count, shift);
-    seat_frames(
-        sheet,
-        holders,
-        &marks,
-        links,
-        seen,
+    let mut lows = [0u64; 1024];
+    let mut lasts = [0u64; 1024];
+    let mut chains = [0u16; 2048];
+    let mut sizes = [0u16; 512];
+    let z = intervals::cover(
+        &sheet[1024..1536],
+        &sheet[512..1024],
         count,
-        633,
-        shift,
-        first,
+        &mut lows,
+        &mut lasts,
+        &mut chains,
+        &mut sizes,
+    );
+    seat_frames_covered(
+        sheet,
+        links,
+        &lows,
+        &lasts,
+        &chains,
+        &sizes,
+        z,
         frames,
+        first,
     )
 }
 
-// The same of all frames, which are chained by their places. Words of the map with every bit set are passed over: those frames are free. After four
-// far searches the marks are made.
+// The same of all frames, which are chained by their places. Words of the map with every bit set are passed over: those frames are free. Searches have 640
+// steps, enough for four that go by halving; where none is left, windows are looked for by intervals.
 pub fn seat_all(
     free: &[u64],
     sheet: &[u64],
@@ -529,19 +303,20 @@ pub fn seat_all(
     ensures { λ q. ⌜ (q ≡ allBelow (placedAt? (now (sheet .entry)) (now (holders .entry))) frames) × (q ≡ true → SpotChains (spotsOf (now (sheet .entry))) frames (take 1024 (now (links .exit))) (drop 1024 (now (links .exit)))) × (q ≡ true → length (now (links .exit)) ≡ 2048) ⌝ }
 {
     let mut seen = [0u64; 4];
-    seen[3] = 4;
+    seen[3] = 640;
     let mut i: usize = 0;
     while i * 64 < frames {
-        if seen[3] == 0 {
-            return seat_rest(sheet, holders, links, &mut seen, count, frames, i * 64);
-        }
         if free[i] < 18446744073709551615 {
             let end = least(i * 64 + 64, frames);
-            if seat_heads(sheet, holders, links, &mut seen, count, i * 64, end) {
+            let f = seat_frames(sheet, holders, links, &mut seen, count, i * 64, end);
+            if f == end {
                 i += 1;
                 continue;
             }
-            return false;
+            if 0 < seen[3] {
+                return false;
+            }
+            return seat_rest(sheet, links, count, frames, f);
         }
         i += 1;
     }
@@ -549,12 +324,12 @@ pub fn seat_all(
 }
 
 // Whether one of the frames stands at index 0 of backing b: a walk along the chain of that place.
-pub fn stands(spots: &[u64], heads: &[u16], next: &[u16], frames: usize, b: u64) -> bool
+fn stands(spots: &[u64], heads: &[u16], next: &[u16], frames: usize, b: u64) -> bool
     requires { ⌜ (frames ≤ 1024) × (0 < b) × (b < 4294967296) × SpotChains (now spots) frames (now heads) (now next) × (length (now spots) ≡ 1024) × (length (now heads) ≡ 1024) × (length (now next) ≡ 1024) ⌝ }
     ensures { λ q. ⌜ q ≡ stands? (spotted (now (spots .entry))) frames b 0 ⌝ }
 {
     let x = b * 4294967296;
-    let mut k = heads[((b * 633) % 1024) as usize] as usize;
+    let mut k = heads[chain_to(b, 0)] as usize;
     while 0 < k {
         if spots[k - 1] == x {
             return true;
@@ -565,7 +340,7 @@ pub fn stands(spots: &[u64], heads: &[u16], next: &[u16], frames: usize, b: u64)
 }
 
 // "A `Single` range has .. its frame at index 0", of the range with this tag. A range of another kind passes.
-pub fn seated(spots: &[u64], heads: &[u16], next: &[u16], frames: usize, tag: u64) -> bool
+fn seated(spots: &[u64], heads: &[u16], next: &[u16], frames: usize, tag: u64) -> bool
     requires { ⌜ (frames ≤ 1024) × (0 < tag % 4294967296) × SpotChains (now spots) frames (now heads) (now next) × (length (now spots) ≡ 1024) × (length (now heads) ≡ 1024) × (length (now next) ≡ 1024) ⌝ }
     ensures { λ q. ⌜ q ≡ pick (eqb (tag / 4294967296) 1) (stands? (spotted (now (spots .entry))) frames (tag % 4294967296) 0) true ⌝ }
 {
@@ -599,7 +374,7 @@ pub fn all_seated(
 }
 
 // Whether the bit of frame f is set exactly if the frame is free, and its spot x is that of a frame of the store in use, or zero.
-pub fn bit(set: bool, x: u64, frames: usize, f: usize) -> bool
+fn bit(set: bool, x: u64, frames: usize, f: usize) -> bool
     ensures { λ q. ⌜ q ≡ (idle? frames f (spotOf x) && same set (ltb f frames && eqb (x / 4294967296) 0)) ⌝ }
 {
     if f < frames {

@@ -1,2 +1,1 @@
 pub mod Tidy
-pub mod Blocks

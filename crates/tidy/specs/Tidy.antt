@@ -7,7 +7,7 @@ use native.Mathlib.Nat.{le-of-suc-le-suc, le-refl, not-suc-le-zero}
 use native.Mathlib.Omega.{arith}
 use lib.Dec.{eqb, leb, ltb}
 use lib.ListN.{drop, length, getD, take}
-use lib.Seq.{getD-take, set-getD}
+use lib.Seq.{length-take-le, set-getD}
 use borrow.Author.Tests.{eqb-true, leb-true, ltb-true}
 use Rattle.places.specs.declared.Place.{Place}
 use Rattle.store.specs.declared.Store.{Store}
@@ -19,13 +19,13 @@ use Rattle.ranges.specs.Table.{named}
 use Rattle.table.specs.Table.{rangesOf}
 use Rattle.places.specs.Places.{nowhere, placeAt}
 use Rattle.store.specs.Trim.{keptPlace}
-use Rattle.chains.specs.Chains.{Chained, head-le, keyed}
+use Rattle.chains.specs.Chains.{Chained, keyed}
 use Rattle.columns.specs.Ranges.{Spans, Tags}
 use Rattle.store.specs.Abs.{used}
 use Rattle.sheet.specs.Sheet.{storeOf, withPlace, withPlaces}
 use Rattle.sheet.specs.Edits.{storeOf-sized}
-use Rattle.sound_places.specs.Windows.{Falls, Found, Hinted, Met, Seen, Wide, link-falls, met-head, outside, outsideAt, walk-named}
-use Rattle.sound_places.specs.Words.{heads-long, lines-long, next-all, next-long}
+use Rattle.windows.specs.Windows.{Met, Seen, Wide, chain-all, heads-long, next-long, outside, outsideAt, walk-named}
+use Rattle.intervals.specs.Intervals.{Cover, Shown}
 
 -- how long the columns and the links of the ranges are
 pub record Long (ts xs l : List ℕ) : Type 0 where
@@ -42,6 +42,15 @@ pub record Told (s : Store) (n : ℕ) (ts xs l : List ℕ) : Type 0 where
   pub chained : Chained (keyed ts) n (take 1024 l) (drop 1024 l)
   pub long : Long ts xs l
 
+-- the intervals of the windows of a store's ranges, which their columns tell
+pub record Ready (s : Store) (ls hs l zs : List ℕ) (z : ℕ) : Type 0 where
+  pub count : ℕ
+  pub tags : List ℕ
+  pub spans : List ℕ
+  pub links : List ℕ
+  pub told : Told s count tags spans links
+  pub cover : Cover tags spans ls hs l zs z count
+
 -- of a store's columns and chains as they are made
 pub told-by : (s : Store) (n : ℕ) (ts xs l : List ℕ) → s .count ≤ 512 → n ≡ s .count → Tags (s .ranges) n ts × Spans (s .ranges) n xs × (length ts ≡ 512) × (length xs ≡ 512)
     → Chained (keyed ts) n (take 1024 l) (drop 1024 l) × (length l ≡ 2048) → Told s n ts xs l
@@ -51,20 +60,7 @@ told-by s n ts xs l b e d c =
 -- the parts that the windows are looked for in
 module _ (w ts xs l : List ℕ) (L : Long ts xs l) where
   pub wide : length w ≡ 2579 → Wide (take 512 w) ts xs (take 1024 l) (take 1024 (drop 1024 l))
-  wide h = record { lines = lines-long w h; tags = L .tags; spans = L .spans; heads = heads-long l (L .links); next = next-long l (L .links) }
-
-  -- the walk from the head of the chain of spot x
-  module _ (n hint x : ℕ) (H : Hinted ts (take 1024 l) (drop 1024 l) n hint) where
-    pub head-here : getD l (x / 4294967296 % 1024) 0 ≤ n
-    head-here = head-le (keyed ts) l n (x / 4294967296 % 1024) (omega arith) (H .chained)
-
-    pub falls-here : Falls (take 1024 (drop 1024 l)) (getD l (x / 4294967296 % 1024) 0)
-    falls-here = rw (next-all l (L .links)) (link-falls ts xs (take 1024 l) (drop 1024 l) n x hint H (getD l (x / 4294967296 % 1024) 0) head-here)
-
-    pub found-here : (r : ℕ) → Found ts xs (take 1024 (drop 1024 l)) x (getD l (x / 4294967296 % 1024) 0) r → Met ts xs (take 1024 l) (drop 1024 l) n x r
-    found-here r F =
-        met-head ts xs (take 1024 l) (drop 1024 l) n x hint H r
-        (rw (getD-take 1024 l (x / 4294967296 % 1024) 0 (omega arith), ← next-all l (L .links)) F)
+  wide h = record { lines = length-take-le 512 w (omega arith); tags = L .tags; spans = L .spans; heads = heads-long l (L .links); next = next-long l (L .links) }
 
 -- x tells a place: the spot where it is, or 0
 pub record Spot (p : Place) (x : ℕ) : Type 0 where
@@ -135,6 +131,17 @@ module _ (S : Store) (full : length (S .ranges) ≡ 512) (n : ℕ) (ts xs l : Li
     met-some : (r ≡ 0 → ⊥) → keptPlace (rangesOf (used S)) p ≡ p
     met-some z = rw (told, M .some (omega arith))
 
+  module _ (ls hs : List ℕ) (r : ℕ) (M : Shown ts xs ls hs n x r) where
+    -- no interval has it: the place goes
+    shown-none : r ≡ 0 → nowhere ≡ keptPlace (rangesOf (used S)) p
+    shown-none z = rw (told, chain-all ts xs (take 1024 l) (drop 1024 l) n (D .chained) x, M .none z)
+
+    -- one has it: it stays
+    shown-some : (r ≡ 0 → ⊥) → keptPlace (rangesOf (used S)) p ≡ p
+    shown-some z =
+        let u : 0 < r = omega arith in
+        rw (told, chain-all ts xs (take 1024 l) (drop 1024 l) n (D .chained) x, M .inside u x (M .low u) (M .last u))
+
 -- ---- one turn of trimming: the store of w, with its first f places trimmed, is T, and x tells the place of frame f
 module _ (w : List ℕ) (T : Store) (f x : ℕ) (h : f < 1024) (e : Trimmed (storeOf w) f T) (P : Spot (placeAt (T .places) f) x) where
   in-store : f < length (storeOf w .places)
@@ -170,6 +177,16 @@ module _ (w : List ℕ) (T : Store) (f x : ℕ) (h : f < 1024) (e : Trimmed (sto
     pub turn-none : (r : ℕ) → Met ts xs (take 1024 l) (drop 1024 l) n x r → r ≡ 0 → (U : Store) → U ≡ withPlace f nowhere T → Trimmed (storeOf w) (f + 1) U
     turn-none r M z U u =
         turn-set g (storeOf w) T f in-store e U nowhere (met-none (storeOf w) (storeOf-sized w .ranges) n ts xs l D (placeAt (T .places) f) x P r M z) u
+
+    module _ (ls hs : List ℕ) (r : ℕ) (M : Shown ts xs ls hs n x r) where
+      -- an interval of windows has it
+      pub turn-shown : (r ≡ 0 → ⊥) → Trimmed (storeOf w) (f + 1) T
+      turn-shown z = stays (shown-some (storeOf w) (storeOf-sized w .ranges) n ts xs l D (placeAt (T .places) f) x P ls hs r M z)
+
+      -- none has it: the frame is cleared
+      pub turn-gone : r ≡ 0 → (U : Store) → U ≡ withPlace f nowhere T → Trimmed (storeOf w) (f + 1) U
+      turn-gone z U u =
+          turn-set g (storeOf w) T f in-store e U nowhere (shown-none (storeOf w) (storeOf-sized w .ranges) n ts xs l D (placeAt (T .places) f) x P ls hs r M z) u
 
 -- ---- trimming that goes on
 pub trimmed-none : (S : Store) → Trimmed S 0 S

@@ -54,9 +54,8 @@ fn guess(sheet: &[u64; 2579], links: &[u16; 2048], backing: u32, index: u32) -> 
     ensures { λ r. ⌜ (0 < r → At (r - 1) ≡ frameAt backing index 0 (take (storeOf (now (sheet .entry)) .frames) (storeOf (now (sheet .entry)) .places))) ⌝ }
 {
     let n = sheet::frames(sheet);
-    let i = index as usize;
-    let key = (backing as usize) * 633 + (i + i / 1024);
-    let mut k = wide(links[key % 1024]);
+    let h = sound_places::chain_to(backing as u64, index as u64);
+    let mut k = wide(links[h]);
     let mut turns: usize = 8;
     while 0 < turns {
         if k == 0 {

@@ -14,19 +14,13 @@ use Rattle.seek.proofs.frame_of.Statement.{statement}
 use Rattle.seek.proofs.frame_of.Tie as tie
 
 abbrev Inv-loop : tie.InvT-loop
-Inv-loop sheet links backing index i key k₀ k = Walk (drop 1024 links) (lacks (storeOf sheet .places) backing index) (storeOf sheet .frames) k
+Inv-loop sheet links backing index h k₀ k = Walk (drop 1024 links) (lacks (storeOf sheet .places) backing index) (storeOf sheet .frames) k
 
 abbrev μ-loop : tie.MeasureT-loop
-μ-loop sheet links backing index i key k₀ k = k
+μ-loop sheet links backing index h k₀ k = k
 
-mul-key : tie.Need-mul-key Inv-loop μ-loop
-mul-key c = search needs
-
-add-key : tie.Need-add-key Inv-loop μ-loop
-add-key c = search needs
-
-add-key-2 : tie.Need-add-key-2 Inv-loop μ-loop
-add-key-2 c = search needs
+chain-to-requires : tie.Need-chain-to-requires Inv-loop μ-loop
+chain-to-requires c κs = search needs
 
 mul-k : tie.Need-mul-k Inv-loop μ-loop
 mul-k c = search needs
@@ -36,16 +30,16 @@ element-copy-out-k c = search needs
 
 cast-k : tie.Need-cast-k Inv-loop μ-loop
 cast-k c =
-    let a = c .before .args in
-    let p = c .before .pre in
+    let a = c .before .before .args in
+    let p = c .before .before .pre in
     let w = walk-frames (a .sheet .now) (a .links .now) (a .backing) (a .index) (p .0) (p .1) .low in
-    omega arith
+    record { fits = rw (c .before .chain-to .ensures) (omega (arith, p .1)) }
 
 loop-holds : tie.Need-loop-holds Inv-loop μ-loop
 loop-holds c =
-    let a = c .before .args in
-    let p = c .before .pre in
-    walk-frames (a .sheet .now) (a .links .now) (a .backing) (a .index) (p .0) (p .1)
+    let a = c .before .before .args in
+    let p = c .before .before .pre in
+    rw (c .before .chain-to .ensures) (walk-frames (a .sheet .now) (a .links .now) (a .backing) (a .index) (p .0) (p .1))
 
 sub-place : tie.Need-sub-place Inv-loop μ-loop
 sub-place c = search needs
@@ -56,13 +50,13 @@ place-requires c κs = search needs
 stands-at-requires : tie.Need-stands-at-requires Inv-loop μ-loop
 stands-at-requires c κs = search needs
 
-sub-t19 : tie.Need-sub-t19 Inv-loop μ-loop
-sub-t19 c = search needs
+sub-t17 : tie.Need-sub-t17 Inv-loop μ-loop
+sub-t17 c = search needs
 
 returns : tie.Need-returns Inv-loop μ-loop
 returns c =
-    let a = c .before .before .before .before .before .before .args in
-    let p = c .before .before .before .before .before .before .pre in
+    let a = c .before .before .before .before .before .before .before .args in
+    let p = c .before .before .before .before .before .before .before .pre in
     let l = c .before .before .before .before .loop in
     let n = storeOf-sized (a .sheet .now) .places in
     let w = l .inv .low in
@@ -81,30 +75,30 @@ element-copy-out-k-2 c = search needs
 
 cast-k-2 : tie.Need-cast-k-2 Inv-loop μ-loop
 cast-k-2 c =
-    let a = c .before .before .before .before .before .before .before .args in
+    let a = c .before .before .before .before .before .before .before .before .args in
     let l = c .before .before .before .before .before .loop in
-    let p = c .before .before .before .before .before .before .before .pre .1 in
+    let p = c .before .before .before .before .before .before .before .before .pre .1 in
     let h = link-less (a .links .now) (lacks (storeOf (a .sheet .now) .places) (a .backing) (a .index)) (storeOf (a .sheet .now) .frames) (l .k) (l .inv) (search needs) in
     let w = l .inv .low in
     omega arith
 
 loop-less : tie.Need-loop-less Inv-loop μ-loop
 loop-less c =
-    let a = c .before .before .before .before .before .before .before .args in
+    let a = c .before .before .before .before .before .before .before .before .args in
     let l = c .before .before .before .before .before .loop in
     link-less (a .links .now) (lacks (storeOf (a .sheet .now) .places) (a .backing) (a .index)) (storeOf (a .sheet .now) .frames) (l .k) (l .inv) (search needs)
 
 loop-again : tie.Need-loop-again Inv-loop μ-loop
 loop-again c =
-    let a = c .before .before .before .before .before .before .before .args in
+    let a = c .before .before .before .before .before .before .before .before .args in
     let l = c .before .before .before .before .before .loop in
     let t = ap (standsAt (a .backing) (a .index)) (sym (c .before .before .before .place .ensures)) ∙ sym (c .before .before .stands-at .ensures) ∙ c .before .if1 .left in
     link-next (a .links .now) (lacks (storeOf (a .sheet .now) .places) (a .backing) (a .index)) (storeOf (a .sheet .now) .frames) (l .k) (l .inv) (search needs) (ap not t)
 
 returns-2 : tie.Need-returns-2 Inv-loop μ-loop
 returns-2 c =
-    let a = c .before .before .before .args in
-    let p = c .before .before .before .pre in
+    let a = c .before .before .before .before .args in
+    let p = c .before .before .before .before .pre in
     let l = c .before .loop in
     let n = storeOf-sized (a .sheet .now) .places in
     found-none (storeOf (a .sheet .now) .places) (storeOf (a .sheet .now) .frames) (a .backing) (a .index) (omega arith)
@@ -116,9 +110,7 @@ frame-of-spec =
     (tie.spec
     Inv-loop
     μ-loop
-    mul-key
-    add-key
-    add-key-2
+    chain-to-requires
     mul-k
     element-copy-out-k
     cast-k
@@ -126,7 +118,7 @@ frame-of-spec =
     sub-place
     place-requires
     stands-at-requires
-    sub-t19
+    sub-t17
     returns
     add-k
     mul-k-2

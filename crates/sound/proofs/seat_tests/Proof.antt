@@ -1,5 +1,6 @@
 -- `sound::seat_tests` meets its contract.
-use Rattle.sound_places.specs.Words.{heads-long, next-all, next-long, spots-long, tags-long}
+use Rattle.windows.specs.Windows.{heads-long, next-all, next-long}
+use Rattle.sound_places.specs.Words.{spots-long, tags-long}
 use native.Mathlib.Omega.{arith}
 use borrow.Author.Needs.{needs}
 use Rattle.sound.proofs.seat_tests.Statement.{statement}

@@ -1,10 +1,10 @@
 -- `sound_places::seat_all` meets its contract. The loop's invariant: the frames of the words below `i` pass, and are chained. The measure is the number of words left.
-use mathlib.Core.Path.{_≡_, sym, _∙_}
+use mathlib.Core.Path.{_≡_, sym}
 use mathlib.Core.Bool.{true, false≢true}
 use Prim.Native.Nat.{_+_, _-_, _*_, _≤_, _<_, min}
 use lib.ListN.{getD}
-use Rattle.lists.specs.Every.{allBelow, below-zero}
-use Rattle.sound_places.specs.Words.{below-low, free-word, placed-free, placedAt?, seated-free, seated-none, spotsOf, Seated}
+use Rattle.lists.specs.Every.{allBelow, below-fails, below-zero}
+use Rattle.sound_places.specs.Words.{free-word, placed-free, placedAt?, seated-free, seated-none, spotsOf, Seated}
 use borrow.Author.Needs.{needs}
 use native.Mathlib.Omega.{arith}
 use Rattle.sound_places.proofs.seat_all.Statement.{statement}
@@ -31,30 +31,11 @@ loop-holds c =
 mul-loop : tie.Need-mul-loop Inv-loop μ-loop
 mul-loop c = search needs
 
-array-read-if1 : tie.Need-array-read-if1 Inv-loop μ-loop
-array-read-if1 c = search needs
+mul-if1 : tie.Need-mul-if1 Inv-loop μ-loop
+mul-if1 c = search needs
 
-mul-seat-rest : tie.Need-mul-seat-rest Inv-loop μ-loop
-mul-seat-rest c = search needs
-
-seat-rest-requires : tie.Need-seat-rest-requires Inv-loop μ-loop
-seat-rest-requires c κs =
-    let a = c .before .before .before .before .before .before .before .before .args in
-    let p = c .before .before .before .before .before .before .before .before .pre in
-    let l = c .before .before .before .before .loop in
-    let e : min (l .i * 64) (a .frames) ≡ l .i * 64 = omega arith in
-    (omega arith, p .0, p .1, rw e at (l .inv .1), rw e at (l .inv .2))
-
-returns : tie.Need-returns Inv-loop μ-loop
-returns c =
-    let s = c .seat-rest .ensures in
-    (s .0, λ q. s .1 q .frames, λ q. s .1 q .links)
-
-mul-if2 : tie.Need-mul-if2 Inv-loop μ-loop
-mul-if2 c = search needs
-
-shared-slice-read-if2 : tie.Need-shared-slice-read-if2 Inv-loop μ-loop
-shared-slice-read-if2 c = search needs
+shared-slice-read-if1 : tie.Need-shared-slice-read-if1 Inv-loop μ-loop
+shared-slice-read-if1 c = search needs
 
 mul-least : tie.Need-mul-least Inv-loop μ-loop
 mul-least c = search needs
@@ -65,14 +46,14 @@ add-least c = search needs
 least-requires : tie.Need-least-requires Inv-loop μ-loop
 least-requires c κs = search needs
 
-mul-seat-heads : tie.Need-mul-seat-heads Inv-loop μ-loop
-mul-seat-heads c = search needs
+mul-seat-frames : tie.Need-mul-seat-frames Inv-loop μ-loop
+mul-seat-frames c = search needs
 
-seat-heads-requires : tie.Need-seat-heads-requires Inv-loop μ-loop
-seat-heads-requires c κs =
-    let a = c .before .before .before .before .before .before .before .before .before .before .before .args in
-    let p = c .before .before .before .before .before .before .before .before .before .before .before .pre in
-    let l = c .before .before .before .before .before .before .before .loop in
+seat-frames-requires : tie.Need-seat-frames-requires Inv-loop μ-loop
+seat-frames-requires c κs =
+    let a = c .before .before .before .before .before .before .before .before .before .before .args in
+    let p = c .before .before .before .before .before .before .before .before .before .before .pre in
+    let l = c .before .before .before .before .before .before .loop in
     let r = c .before .before .least .ensures in
     let e : min (l .i * 64) (a .frames) ≡ l .i * 64 = omega arith in
     (omega arith, omega (arith, p .0), p .1, rw e at (l .inv .1), rw e at (l .inv .2))
@@ -85,20 +66,40 @@ loop-less c = search needs
 
 loop-again : tie.Need-loop-again Inv-loop μ-loop
 loop-again c =
-    let a = c .before .before .before .before .before .before .before .before .before .before .before .before .before .args in
-    let l = c .before .before .before .before .before .before .before .before .before .loop in
+    let a = c .before .before .before .before .before .before .before .before .before .before .before .before .args in
+    let l = c .before .before .before .before .before .before .before .before .loop in
     let r = c .before .before .before .before .least .ensures in
-    let s = c .before .seat-heads .ensures in
-    let e : min ((l .i + 1) * 64) (a .frames) ≡ c .before .before .before .before .least .result = omega arith in
-    (omega arith, rw e (s .1 (c .if3 .taken)), rw e (sym (s .0) ∙ c .if3 .taken))
+    let s = c .before .seat-frames .ensures in
+    let e : min ((l .i + 1) * 64) (a .frames) ≡ c .before .seat-frames .result = omega (arith, c .if2 .taken) in
+    (omega arith, rw e (s .3 (c .if2 .taken)), rw e (s .1))
+
+array-read-if3 : tie.Need-array-read-if3 Inv-loop μ-loop
+array-read-if3 c = search needs
+
+returns : tie.Need-returns Inv-loop μ-loop
+returns c =
+    let a = c .before .before .before .before .before .before .before .before .before .before .before .before .before .args in
+    let r = c .before .before .before .before .before .least .ensures in
+    let s = c .before .before .seat-frames .ensures in
+    let u : c .before .before .seat-frames .result < c .before .before .before .before .before .least .result = omega (arith, s .0, c .before .if2 .left) in
+    (below-fails (placedAt? (a .sheet .now) (a .holders .now)) (a .frames) _ (omega arith) (s .2 u .fails (search needs)), (λ e. absurd (false≢true e)), λ e. absurd (false≢true e))
+
+seat-rest-requires : tie.Need-seat-rest-requires Inv-loop μ-loop
+seat-rest-requires c κs =
+    let a = c .before .before .before .before .before .before .before .before .before .before .before .before .before .before .args in
+    let p = c .before .before .before .before .before .before .before .before .before .before .before .before .before .before .pre in
+    let r = c .before .before .before .before .before .before .least .ensures in
+    let s = c .before .before .before .seat-frames .ensures in
+    let u : c .before .before .before .seat-frames .result < c .before .before .before .before .before .before .least .result = omega (arith, s .0, c .before .before .if2 .left) in
+    let z = s .2 u in
+    (omega arith, p .0, p .1 .few, p .1 .long, z .frames (search needs), z .links (search needs))
 
 returns-2 : tie.Need-returns-2 Inv-loop μ-loop
 returns-2 c =
-    let a = c .before .before .before .before .before .before .before .before .before .before .before .before .before .args in
-    let l = c .before .before .before .before .before .before .before .before .before .loop in
-    let r = c .before .before .before .before .least .ensures in
-    let s = c .before .seat-heads .ensures in
-    (below-low (placedAt? (a .sheet .now) (a .holders .now)) (c .before .before .before .before .least .result) (a .frames) (omega arith) (sym (s .0) ∙ c .if3 .left), λ e. absurd (false≢true e), λ e. absurd (false≢true e))
+    let a = c .before .before .before .before .before .before .before .before .before .before .before .before .before .before .before .args in
+    let p = c .before .before .before .before .before .before .before .before .before .before .before .before .before .before .before .pre in
+    let s = c .seat-rest .ensures in
+    (s .0 (a .holders .now) (p .1) (c .before .before .before .before .seat-frames .ensures .1), (λ q. s .1 q .0), λ q. s .1 q .1)
 
 add-i-2 : tie.Need-add-i-2 Inv-loop μ-loop
 add-i-2 c = search needs
@@ -108,12 +109,12 @@ loop-less-2 c = search needs
 
 loop-again-2 : tie.Need-loop-again-2 Inv-loop μ-loop
 loop-again-2 c =
-    let a = c .before .before .before .before .before .before .before .before .args in
-    let p = c .before .before .before .before .before .before .before .before .pre in
-    let l = c .before .before .before .before .loop in
+    let a = c .before .before .before .before .before .before .before .args in
+    let p = c .before .before .before .before .before .before .before .pre in
+    let l = c .before .before .before .loop in
     let e : min (l .i * 64) (a .frames) ≡ l .i * 64 = omega arith in
     let b : l .i * 64 ≤ min ((l .i + 1) * 64) (a .frames) = omega arith in
-    let f : getD (a .free .now) (l .i) 0 < 18446744073709551616 = omega (arith, c .before .before .before .before .before .before .before .shared-slice-known .given (l .i)) in
+    let f : getD (a .free .now) (l .i) 0 < 18446744073709551616 = omega (arith, c .before .before .before .before .before .before .shared-slice-known .given (l .i)) in
     let v : getD (a .free .now) (l .i) 0 ≡ 18446744073709551615 = omega (arith, f) in
     let o = free-word (a .frames) (spotsOf (a .sheet .now)) (a .free .now) (l .i) (omega arith) v (p .4) in (
       omega arith,
@@ -127,7 +128,7 @@ returns-3 c =
     let l = c .before .loop in
     let e : min (l .i * 64) (a .frames) ≡ a .frames = omega arith in
     let s = rw e at (l .inv .1) in
-    (sym (rw e at (l .inv .2)), λ _. s .frames, λ _. s .links)
+    (sym (rw e at (l .inv .2)), (λ _. s .frames), λ _. s .links)
 
 pub seat-all-spec : {M : Type 1} → statement M
 seat-all-spec =
@@ -138,20 +139,19 @@ seat-all-spec =
     array-write-seen
     loop-holds
     mul-loop
-    array-read-if1
-    mul-seat-rest
-    seat-rest-requires
-    returns
-    mul-if2
-    shared-slice-read-if2
+    mul-if1
+    shared-slice-read-if1
     mul-least
     add-least
     least-requires
-    mul-seat-heads
-    seat-heads-requires
+    mul-seat-frames
+    seat-frames-requires
     add-i
     loop-less
     loop-again
+    array-read-if3
+    returns
+    seat-rest-requires
     returns-2
     add-i-2
     loop-less-2

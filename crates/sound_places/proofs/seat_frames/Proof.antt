@@ -1,9 +1,9 @@
 -- `sound_places::seat_frames` meets its contract. The loop's invariant: the frames below `f` pass, and are chained. The measure is the number of frames left.
-use mathlib.Core.Path.{_≡_, sym, _∙_}
-use mathlib.Core.Bool.{true, false≢true}
+use mathlib.Core.Path.{_≡_}
+use mathlib.Core.Bool.{true}
 use Prim.Native.Nat.{_+_, _-_, _/_, _≤_, _<_}
 use lib.ListN.{getD}
-use Rattle.lists.specs.Every.{allBelow, below-done, below-fails, below-next}
+use Rattle.lists.specs.Every.{allBelow, below-next}
 use Rattle.sound_places.specs.Words.{one-free, placed-free, placedAt?, seated-free, spot-word, spotsOf, Seated}
 use borrow.Author.Needs.{needs}
 use native.Mathlib.Omega.{arith}
@@ -11,10 +11,10 @@ use Rattle.sound_places.proofs.seat_frames.Statement.{statement}
 use Rattle.sound_places.proofs.seat_frames.Tie as tie
 
 abbrev Inv-loop : tie.InvT-loop
-Inv-loop sheet holders guesses links₀ seen₀ count m shift first end f₀ links seen f = (first ≤ f) × (f ≤ end) × Seated sheet holders count f links seen × (allBelow (placedAt? sheet holders) f ≡ true)
+Inv-loop sheet holders links₀ seen₀ count first end f₀ links seen f = (first ≤ f) × (f ≤ end) × Seated sheet holders count f links seen × (allBelow (placedAt? sheet holders) f ≡ true)
 
 abbrev μ-loop : tie.MeasureT-loop
-μ-loop sheet holders guesses links₀ seen₀ count m shift first end f₀ links seen f = end - f
+μ-loop sheet holders links₀ seen₀ count first end f₀ links seen f = end - f
 
 loop-holds : tie.Need-loop-holds Inv-loop μ-loop
 loop-holds c = search needs
@@ -30,11 +30,11 @@ shared-slice-read-if1 c = search needs
 
 seat-requires : tie.Need-seat-requires Inv-loop μ-loop
 seat-requires c κs =
-    let a = c .before .before .before .before .before .before .before .before .before .args in
-    let p = c .before .before .before .before .before .before .before .before .before .pre in
+    let a = c .before .before .before .before .before .before .before .before .args in
+    let p = c .before .before .before .before .before .before .before .before .pre in
     let l = c .before .before .before .before .before .loop in
-    let b : l .f < 1024 = omega (arith, p .1 .1) in
-    (p .0, (b, rw (spot-word (a .sheet .now) (l .f) b) (search needs), p .1 .2, l .inv .2))
+    let b : l .f < 1024 = omega (arith, p .1) in
+    (b, rw (spot-word (a .sheet .now) (l .f) b) (search needs), p .2, l .inv .2)
 
 add-f : tie.Need-add-f Inv-loop μ-loop
 add-f c = search needs
@@ -44,16 +44,15 @@ loop-less c = search needs
 
 loop-again : tie.Need-loop-again Inv-loop μ-loop
 loop-again c =
-    let a = c .before .before .before .before .before .before .before .before .before .before .before .args in
+    let a = c .before .before .before .before .before .before .before .before .before .before .args in
     let l = c .before .before .before .before .before .before .before .loop in
-    let e = c .before .seat .ensures in
-    (search needs, search needs, e .1 (c .if2 .taken), below-next (placedAt? (a .sheet .now) (a .holders .now)) (l .f) (l .inv .3) (sym (e .0) ∙ c .if2 .taken))
+    let e = c .before .seat .ensures .0 (c .if2 .taken) in
+    (search needs, search needs, e .1, below-next (placedAt? (a .sheet .now) (a .holders .now)) (l .f) (l .inv .3) (e .0))
 
 returns : tie.Need-returns Inv-loop μ-loop
 returns c =
-    let a = c .before .before .before .before .before .before .before .before .before .before .before .args in
     let l = c .before .before .before .before .before .before .before .loop in
-    (below-fails (placedAt? (a .sheet .now) (a .holders .now)) (a .end) (l .f) (search needs) (sym (c .before .seat .ensures .0) ∙ c .if2 .left), λ e. absurd (false≢true e))
+    (l .inv .1, l .inv .3, (λ _. c .before .seat .ensures .1 (c .if2 .left)), λ e. absurd (omega arith))
 
 add-f-2 : tie.Need-add-f-2 Inv-loop μ-loop
 add-f-2 c = search needs
@@ -63,8 +62,8 @@ loop-less-2 c = search needs
 
 loop-again-2 : tie.Need-loop-again-2 Inv-loop μ-loop
 loop-again-2 c =
-    let a = c .before .before .before .before .before .before .before .args in
-    let p = c .before .before .before .before .before .before .before .pre .1 in
+    let a = c .before .before .before .before .before .before .args in
+    let p = c .before .before .before .before .before .before .pre in
     let l = c .before .before .before .loop in
     let w = spot-word (a .sheet .now) (l .f) (omega (arith, p .1)) in
     let z : getD (spotsOf (a .sheet .now)) (l .f) 0 / 4294967296 ≡ 0 = omega arith in
@@ -77,10 +76,8 @@ loop-again-2 c =
 
 returns-2 : tie.Need-returns-2 Inv-loop μ-loop
 returns-2 c =
-    let a = c .before .before .before .before .before .args in
     let l = c .before .loop in
-    let e : l .f ≡ a .end = omega arith in
-    (below-done (placedAt? (a .sheet .now) (a .holders .now)) (a .end) (l .f) (l .inv .3) (search needs) (search needs), λ _. rw e at (l .inv .2))
+    (l .inv .1, l .inv .3, (λ u. absurd (omega arith)), λ _. l .inv .2)
 
 pub seat-frames-spec : {M : Type 1} → statement M
 seat-frames-spec =

@@ -1,137 +1,144 @@
 -- `sound_places::sought` meets its contract.
-use mathlib.Core.Path.{_≡_, _∙_}
-use mathlib.Core.Bool.{true}
-use Prim.Native.Nat.{ℕ, _≤_, _<_}
-use lib.ListN.{length-set, set}
-use lib.Seq.{getD-set-same}
-use Rattle.sound_places.specs.Windows.{link-falls}
-use Rattle.sound_places.specs.Words.{head-range, looked-noted, next-long, ranged-hinted, spans-long, spansOf, tags-long, window-met}
+use mathlib.Core.Path.{_≡_, sym, _∙_}
+use mathlib.Core.Bool.{true, false≢true}
+use mathlib.Core.List.{List}
+use Prim.Native.Nat.{ℕ, _<_}
+use lib.ListN.{length, length-set, set}
+use lib.Seq.{getD-set-other, getD-set-same}
+use Rattle.sound_places.specs.Words.{looked-noted, ranged-hinted, ranged-wide, window-met, window-none}
 use native.Mathlib.Omega.{arith}
 use borrow.Author.Needs.{needs}
 use Rattle.sound_places.proofs.sought.Statement.{statement}
 use Rattle.sound_places.proofs.sought.Tie as tie
 
-element-copy-out-hint : tie.Need-element-copy-out-hint
-element-copy-out-hint c = search needs
+sub-search : tie.Need-sub-search
+sub-search c = search needs
 
-mul-head : tie.Need-mul-head
-mul-head c = search needs
+part-search-start : tie.Need-part-search-start
+part-search-start c = search needs
 
-shared-slice-read-head : tie.Need-shared-slice-read-head
-shared-slice-read-head c = search needs
+part-search-end : tie.Need-part-search-end
+part-search-end c = search needs
 
-cast-head : tie.Need-cast-head
-cast-head c =
-    let a = c .before .before .before .before .args in
-    let p = c .before .before .before .before .pre in
-    record { fits = omega (arith, p .0 .few, head-range (a .sheet .now) (a .holders .now) (a .count) (p .0) (a .x)) }
+sub-search-2 : tie.Need-sub-search-2
+sub-search-2 c = search needs
 
-sub-begin-at : tie.Need-sub-begin-at
-sub-begin-at c = search needs
+part-search-start-2 : tie.Need-part-search-start-2
+part-search-start-2 c = search needs
 
-part-begin-at-start : tie.Need-part-begin-at-start
-part-begin-at-start c = search needs
+part-search-end-2 : tie.Need-part-search-end-2
+part-search-end-2 c = search needs
 
-part-begin-at-end : tie.Need-part-begin-at-end
-part-begin-at-end c = search needs
+sub-search-3 : tie.Need-sub-search-3
+sub-search-3 c = search needs
 
-begin-at-requires : tie.Need-begin-at-requires
-begin-at-requires c κs = search needs
+part-search-start-3 : tie.Need-part-search-start-3
+part-search-start-3 c = search needs
 
-sub-beside : tie.Need-sub-beside
-sub-beside c = search needs
+part-search-end-3 : tie.Need-part-search-end-3
+part-search-end-3 c = search needs
 
-part-beside-start : tie.Need-part-beside-start
-part-beside-start c = search needs
+sub-search-4 : tie.Need-sub-search-4
+sub-search-4 c = search needs
 
-part-beside-end : tie.Need-part-beside-end
-part-beside-end c = search needs
+part-search-start-4 : tie.Need-part-search-start-4
+part-search-start-4 c = search needs
 
-sub-beside-2 : tie.Need-sub-beside-2
-sub-beside-2 c = search needs
+part-search-end-4 : tie.Need-part-search-end-4
+part-search-end-4 c = search needs
 
-part-beside-start-2 : tie.Need-part-beside-start-2
-part-beside-start-2 c = search needs
+sub-search-5 : tie.Need-sub-search-5
+sub-search-5 c = search needs
 
-part-beside-end-2 : tie.Need-part-beside-end-2
-part-beside-end-2 c = search needs
+part-search-start-5 : tie.Need-part-search-start-5
+part-search-start-5 c = search needs
 
-sub-beside-3 : tie.Need-sub-beside-3
-sub-beside-3 c = search needs
+part-search-end-5 : tie.Need-part-search-end-5
+part-search-end-5 c = search needs
 
-part-beside-start-3 : tie.Need-part-beside-start-3
-part-beside-start-3 c = search needs
+element-copy-out-search : tie.Need-element-copy-out-search
+element-copy-out-search c = search needs
 
-part-beside-end-3 : tie.Need-part-beside-end-3
-part-beside-end-3 c = search needs
+element-copy-out-search-2 : tie.Need-element-copy-out-search-2
+element-copy-out-search-2 c = search needs
 
-beside-requires : tie.Need-beside-requires
-beside-requires c κs =
+search-requires : tie.Need-search-requires
+search-requires c κs =
     let a = c .before .before .before .before .before .before .before .before .before .args in
     let p = c .before .before .before .before .before .before .before .before .before .pre in
-    let H = ranged-hinted (a .sheet .now) (a .holders .now) (a .count) (p .0) _ (p .1 .low) in
-    let b = c .before .before .before .begin-at in
-    let l : b .result ≤ a .count = omega (arith, b .ensures .0, head-range (a .sheet .now) (a .holders .now) (a .count) (p .0) (a .x), p .1 .low) in
-    (l, p .0 .few, link-falls _ (spansOf (a .sheet .now)) _ _ _ (a .x) _ H _ l, tags-long (a .sheet .now) (p .0 .long), spans-long (a .sheet .now) (p .0 .long), next-long (a .holders .now) (p .0 .heads))
+    (p .1 .left, ranged-hinted (a .sheet .now) (a .holders .now) (a .count) (p .0) _ (p .1 .low), ranged-wide (a .sheet .now) (a .holders .now) (a .count) (p .0))
 
 element-write-seen : tie.Need-element-write-seen
 element-write-seen c = search needs
+
+returns : tie.Need-returns
+returns c =
+    let a = c .before .before .before .before .before .before .before .before .before .before .before .args in
+    let p = c .before .before .before .before .before .before .before .before .before .before .before .pre in
+    let s = c .before .search in
+    let l = getD-set-same (a .seen .now) 3 (s .result .steps) 0 (omega (arith, p .1 .long)) in
+    record {
+      yes = λ e. absurd (false≢true e);
+      no = λ _ u. window-none (a .sheet .now) (a .holders .now) (a .count) (p .0) (a .x) (s .result .link) (s .ensures .0 (omega (arith, l, u))) (c .if1 .taken);
+      looked = λ e. absurd (false≢true e);
+    }
+
+element-write-seen-2 : tie.Need-element-write-seen-2
+element-write-seen-2 c = search needs
 
 noted-requires : tie.Need-noted-requires
 noted-requires c κs =
     let a = c .before .before .before .before .before .before .before .before .before .before .before .before .args in
     let p = c .before .before .before .before .before .before .before .before .before .before .before .before .pre in
-    let b = c .before .before .beside in
-    let u : 0 < b .result = c .before .if1 .taken in
-    (u, omega (arith, b .ensures .low, p .0 .few), p .0 .long, p .0 .short _ (omega (arith, b .ensures .low)), length-set (a .seen .now) 2 _ ∙ p .1 .long)
-
-returns : tie.Need-returns
-returns c =
-    let a = c .before .before .before .before .before .before .before .before .before .before .before .before .before .args in
-    let p = c .before .before .before .before .before .before .before .before .before .before .before .before .before .pre in
-    let s = c .before .before .before .beside in
-    let r : ℕ = s .result in
-    let u : 0 < r = c .before .before .if1 .taken in
-    let e = c .noted .ensures in
-    let t : c .noted .result ≡ true = e .0 ∙ s .ensures .hit u in (
-      t ∙ window-met (a .sheet .now) (a .holders .now) (a .count) (p .0) r (a .x) u (s .ensures .low) (s .ensures .hit u),
-      λ q. looked-noted (a .sheet .now) (a .holders .now) (a .count) (p .0) r (set (a .seen .now) 2 r) _ u (s .ensures .low) (omega (arith, getD-set-same (a .seen .now) 2 r 0 (omega (arith, p .1 .long)), s .ensures .low)) (e .1 q),
-    )
-
-far-requires : tie.Need-far-requires
-far-requires c κs =
-    let a = c .before .before .before .before .before .before .before .before .before .before .before .before .args in
-    let p = c .before .before .before .before .before .before .before .before .before .before .before .before .pre in
-    let b = c .before .before .before .before .before .before .begin-at in
-    (p .0, p .1, omega (arith, b .ensures .0, head-range (a .sheet .now) (a .holders .now) (a .count) (p .0) (a .x), p .1 .low))
+    let s = c .before .before .search in
+    let u : 0 < s .result .link = omega (arith, c .before .if1 .left) in
+    let M = s .ensures .0 (s .ensures .1 u) in
+    (u, omega (arith, M .low, p .0 .few), p .0 .long, p .0 .short _ (omega (arith, M .low)), simp length-set (p .1 .long))
 
 returns-2 : tie.Need-returns-2
-returns-2 c = search needs
+returns-2 c =
+    let a = c .before .before .before .before .before .before .before .before .before .before .before .before .before .args in
+    let p = c .before .before .before .before .before .before .before .before .before .before .before .before .before .pre in
+    let s = c .before .before .before .search in
+    let r : ℕ = s .result .link in
+    let u : 0 < r = omega (arith, c .before .before .if1 .left) in
+    let M = s .ensures .0 (s .ensures .1 u) in
+    let e = c .noted .ensures in
+    let v : List ℕ = set (a .seen .now) 3 (s .result .steps) in
+    let l : length v ≡ 4 = length-set (a .seen .now) 3 _ ∙ p .1 .long in
+    let t : c .noted .result ≡ true = e .0 ∙ M .hit u in
+    let k = getD-set-same v 2 r 0 (omega arith) in
+    let z = getD-set-other v 2 3 r 0 (λ q. omega arith) ∙ getD-set-same (a .seen .now) 3 (s .result .steps) 0 (omega (arith, p .1 .long)) in
+    record {
+      yes = λ _. window-met (a .sheet .now) (a .holders .now) (a .count) (p .0) r (a .x) u (M .low) (M .hit u);
+      no = λ q. absurd (false≢true (sym q ∙ t));
+      looked = λ q. looked-noted (a .sheet .now) (a .holders .now) (a .count) (p .0) r (set v 2 r) _ u (M .low) (omega (arith, k, M .low)) (omega (arith, z, s .ensures .1 u)) (e .1 q);
+    }
 
 pub sought-spec : {M : Type 1} → statement M
 sought-spec =
     tie.close
     (tie.spec
-    element-copy-out-hint
-    mul-head
-    shared-slice-read-head
-    cast-head
-    sub-begin-at
-    part-begin-at-start
-    part-begin-at-end
-    begin-at-requires
-    sub-beside
-    part-beside-start
-    part-beside-end
-    sub-beside-2
-    part-beside-start-2
-    part-beside-end-2
-    sub-beside-3
-    part-beside-start-3
-    part-beside-end-3
-    beside-requires
+    sub-search
+    part-search-start
+    part-search-end
+    sub-search-2
+    part-search-start-2
+    part-search-end-2
+    sub-search-3
+    part-search-start-3
+    part-search-end-3
+    sub-search-4
+    part-search-start-4
+    part-search-end-4
+    sub-search-5
+    part-search-start-5
+    part-search-end-5
+    element-copy-out-search
+    element-copy-out-search-2
+    search-requires
     element-write-seen
-    noted-requires
     returns
-    far-requires
+    element-write-seen-2
+    noted-requires
     returns-2)

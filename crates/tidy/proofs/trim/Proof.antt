@@ -4,9 +4,9 @@ use Prim.Native.Nat.{ℕ}
 use Rattle.sheet.specs.Sheet.{storeOf}
 use Rattle.store.specs.declared.Store.{Store}
 use Rattle.lists.specs.Mapped.{mapped}
-use Rattle.tidy.specs.Tidy.{told-by, told-here, trimmed-here, trimmed-none, trimmed-on, Trimmed}
-use borrow.Author.Needs.{needs}
+use Rattle.tidy.specs.Tidy.{told-by, told-here, trimmed-here, trimmed-on, Trimmed}
 use native.Mathlib.Omega.{arith}
+use borrow.Author.Needs.{needs}
 use Rattle.tidy.proofs.trim.Statement.{statement}
 use Rattle.tidy.proofs.trim.Tie as tie
 
@@ -28,27 +28,27 @@ link-requires c κs = search needs
 trim-along-requires : tie.Need-trim-along-requires
 trim-along-requires c κs =
     let a = c .before .before .before .before .before .before .before .before .before .before .before .before .before .before .before .args in
-    (search needs, search needs, search needs, trimmed-none (storeOf (a .sheet .now)), told-by (storeOf (a .sheet .now)) _ _ _ _ (c .before .before .before .before .before .before .before .before .before .before .before .before .before .before .before .pre .2) (c .before .before .before .before .before .before .before .before .before .before .before .before .before .count .ensures) (c .before .before .before .before .before .before .before .columns-of .ensures) (c .before .before .before .before .link .ensures))
+    (search needs, search needs, told-by (storeOf (a .sheet .now)) _ _ _ _ (c .before .before .before .before .before .before .before .before .before .before .before .before .before .before .before .pre .2) (c .before .before .before .before .before .before .before .before .before .before .before .before .before .count .ensures) (c .before .before .before .before .before .before .before .columns-of .ensures) (c .before .before .before .before .link .ensures))
 
 trim-rest-requires : tie.Need-trim-rest-requires
 trim-rest-requires c κs =
-    let a = c .before .before .before .before .before .before .before .before .before .before .before .before .before .before .before .before .before .before .before .before .before .args in
-    let t = c .before .before .before .before .before .trim-along in
+    let a = c .before .before .before .before .before .before .before .before .before .before .before .before .before .before .before .before .before .before .before .before .args in
+    let t = c .before .before .before .before .trim-along in
     let e = t .ensures .0 in
     let n = ap (λ (s : Store). s .frames) e in
-    let d = told-by (storeOf (a .sheet .now)) _ _ _ _ (c .before .before .before .before .before .before .before .before .before .before .before .before .before .before .before .before .before .before .before .before .before .pre .2) (c .before .before .before .before .before .before .before .before .before .before .before .before .before .before .before .before .before .before .before .count .ensures) (c .before .before .before .before .before .before .before .before .before .before .before .before .before .columns-of .ensures) (c .before .before .before .before .before .before .before .before .before .before .link .ensures) in (
-      t .ensures .3,
-      omega (arith, c .before .before .before .before .before .before .before .before .before .before .before .before .before .before .before .before .before .before .before .before .before .pre .1),
+    let d = told-by (storeOf (a .sheet .now)) _ _ _ _ (c .before .before .before .before .before .before .before .before .before .before .before .before .before .before .before .before .before .before .before .before .pre .2) (c .before .before .before .before .before .before .before .before .before .before .before .before .before .before .before .before .before .before .count .ensures) (c .before .before .before .before .before .before .before .before .before .before .before .before .columns-of .ensures) (c .before .before .before .before .before .before .before .before .before .link .ensures) in (
+      t .ensures .2,
+      omega (arith, c .before .before .before .before .before .before .before .before .before .before .before .before .before .before .before .before .before .before .before .before .pre .1),
       omega (arith, t .ensures .1),
       trimmed-here (storeOf (a .sheet .now)) (storeOf (t .last .0)) (t .result) e,
-      told-here (storeOf (a .sheet .now)) (storeOf (t .last .0)) (t .result) e _ _ _ _ d,
+      (c .before .before .before .before .before .before .before .before .before .link .last .1 .1 .0, told-here (storeOf (a .sheet .now)) (storeOf (t .last .0)) (t .result) e _ _ _ _ d),
     )
 
 returns : tie.Need-returns
 unfolding mapped
 returns c =
-    let a = c .before .before .before .before .before .before .before .before .before .before .before .before .before .before .before .before .before .before .before .before .before .before .args in
-    let t = c .before .before .before .before .before .before .trim-along in
+    let a = c .before .before .before .before .before .before .before .before .before .before .before .before .before .before .before .before .before .before .before .before .before .args in
+    let t = c .before .before .before .before .before .trim-along in
     let e = t .ensures .0 in
     let n = ap (λ (s : Store). s .frames) e in
     let r = c .trim-rest .ensures in
@@ -63,7 +63,7 @@ returns-2 c =
     let b = t .ensures .1 in
     let u = c .if1 .left in
     let q : t .result ≡ storeOf (a .sheet .now) .frames = omega (arith, c .before .before .before .before .before .before .before .before .before .before .before .before .before .frames .ensures) in
-    (subst (λ (k : ℕ). Trimmed (storeOf (a .sheet .now)) k (storeOf (t .last .0))) q (t .ensures .0), t .ensures .3)
+    (subst (λ (k : ℕ). Trimmed (storeOf (a .sheet .now)) k (storeOf (t .last .0))) q (t .ensures .0), t .ensures .2)
 
 pub trim-spec : {M : Type 1} → statement M
 trim-spec =

@@ -1,32 +1,26 @@
 -- `writing::guess` meets its contract: a frame that stands at the place is the only one. The loop's invariant: `n` is the number of frames. The measure is what is left of the eight turns.
-use borrow.Author.Needs.{needs}
-use native.Mathlib.Omega.{arith}
 use mathlib.Core.Path.{_≡_, sym, ap, _∙_}
 use Prim.Native.Nat.{_-_}
 use Rattle.places.specs.Places.{standsAt}
 use Rattle.sheet.specs.Sheet.{storeOf}
 use Rattle.sheet.specs.Edits.{storeOf-sized}
 use Rattle.seek.specs.Framed.{found-there}
+use borrow.Author.Needs.{needs}
+use native.Mathlib.Omega.{arith}
 use Rattle.writing.proofs.guess.Statement.{statement}
 use Rattle.writing.proofs.guess.Tie as tie
 
 abbrev Inv-loop : tie.InvT-loop
-Inv-loop sheet links backing index n i key k₀ turns₀ k turns = n ≡ storeOf sheet .frames
+Inv-loop sheet links backing index n h k₀ turns₀ k turns = n ≡ storeOf sheet .frames
 
 abbrev μ-loop : tie.MeasureT-loop
-μ-loop sheet links backing index n i key k₀ turns₀ k turns = turns
+μ-loop sheet links backing index n h k₀ turns₀ k turns = turns
 
 frames-requires : tie.Need-frames-requires Inv-loop μ-loop
 frames-requires c κs = search needs
 
-mul-key : tie.Need-mul-key Inv-loop μ-loop
-mul-key c = search needs
-
-add-key : tie.Need-add-key Inv-loop μ-loop
-add-key c = search needs
-
-add-key-2 : tie.Need-add-key-2 Inv-loop μ-loop
-add-key-2 c = search needs
+chain-to-requires : tie.Need-chain-to-requires Inv-loop μ-loop
+chain-to-requires c κs = search needs
 
 mul-wide : tie.Need-mul-wide Inv-loop μ-loop
 mul-wide c = search needs
@@ -57,8 +51,8 @@ stands-at-requires c κs = search needs
 
 returns-3 : tie.Need-returns-3 Inv-loop μ-loop
 returns-3 c = λ h.
-    let a = c .before .before .before .before .before .before .before .before .before .before .args in
-    let p = c .before .before .before .before .before .before .before .before .before .before .pre in
+    let a = c .before .before .before .before .before .before .before .before .before .before .before .args in
+    let p = c .before .before .before .before .before .before .before .before .before .before .before .pre in
     let l = c .before .before .before .before .before .before .loop in
     let z = storeOf-sized (a .sheet .now) .places in
     let e = l .inv in
@@ -97,9 +91,7 @@ guess-spec =
     Inv-loop
     μ-loop
     frames-requires
-    mul-key
-    add-key
-    add-key-2
+    chain-to-requires
     mul-wide
     element-copy-out-wide
     wide-requires
