@@ -235,12 +235,17 @@ fn three_aged(pool: &mut [u8], order: u8, mode: u8) {
     aged(pool, 1024, 510, order, mode);
 }
 
+// A store without record 0.
+fn without_source(s: Store) -> Store {
+    let r = calls::drop_object(s, 0);
+    r.store
+}
+
 // Soundness where many ranges hold one backing, the drop of the record that it came from, and soundness without that record.
 fn source_dropped(s: Store, pool: &mut [u8], mode: u8) {
     measure(1, s, pool, 1, 1, mode);
     measure(10, s, pool, 1, 1, mode);
-    let r = calls::drop_object(s, 0);
-    let t = r.store;
+    let t = without_source(s);
     measure(1, t, pool, 1, 1, mode);
 }
 
@@ -258,6 +263,20 @@ fn scattered(pool: &mut [u8], pieces: usize, mode: u8)
     source_dropped(s, pool, mode);
 }
 
+fn long_and_short(pool: &mut [u8], pieces: usize, mode: u8)
+    requires { ⌜ pieces ≤ 400 ⌝ }
+{
+    let s = fills::long_and_short(pool, pieces);
+    source_dropped(s, pool, mode);
+}
+
+fn overlapping(pool: &mut [u8], pieces: usize, mode: u8)
+    requires { ⌜ pieces ≤ 500 ⌝ }
+{
+    let s = fills::overlapping(pool, pieces);
+    source_dropped(s, pool, mode);
+}
+
 fn four_cut_up(pool: &mut [u8], order: u8, mode: u8) {
     cut_up(pool, 300, 19, order, mode);
     cut_up(pool, 1024, 19, order, mode);
@@ -272,16 +291,25 @@ fn all_aged(pool: &mut [u8], mode: u8) {
     three_aged(pool, 2, mode);
 }
 
-fn all_of_one_backing(pool: &mut [u8], mode: u8) {
+fn all_cut_up(pool: &mut [u8], mode: u8) {
     io::write_all(1, b"# one backing, frames fall\n");
     four_cut_up(pool, 0, mode);
     io::write_all(1, b"# one backing, frames scattered\n");
     four_cut_up(pool, 1, mode);
     io::write_all(1, b"# one backing, frames rise\n");
     four_cut_up(pool, 2, mode);
+}
+
+fn all_in_pieces(pool: &mut [u8], mode: u8) {
     io::write_all(1, b"# one backing, pieces scattered\n");
     scattered(pool, 150, mode);
     scattered(pool, 500, mode);
+    io::write_all(1, b"# one backing, a long window beside short ones\n");
+    long_and_short(pool, 150, mode);
+    long_and_short(pool, 400, mode);
+    io::write_all(1, b"# one backing, windows overlap\n");
+    overlapping(pool, 150, mode);
+    overlapping(pool, 500, mode);
 }
 
 fn table(pool: &mut [u8], mode: u8) {
@@ -289,7 +317,8 @@ fn table(pool: &mut [u8], mode: u8) {
     nine_fills(pool, mode);
     hand_overs(pool, mode);
     all_aged(pool, mode);
-    all_of_one_backing(pool, mode);
+    all_cut_up(pool, mode);
+    all_in_pieces(pool, mode);
 }
 
 // A few turns of each work, at small fills and at one full of ranges.
@@ -306,6 +335,8 @@ fn few_aged(pool: &mut [u8], mode: u8) {
     cut_up(pool, 64, 19, 1, mode);
     cut_up(pool, 64, 19, 2, mode);
     scattered(pool, 40, mode);
+    long_and_short(pool, 40, mode);
+    overlapping(pool, 40, mode);
 }
 
 fn tried(pool: &mut [u8], mode: u8) {
@@ -356,11 +387,10 @@ fn growth(pool: &mut [u8], least: usize, many: usize, mode: u8)
     }
 }
 
-// One backing, cut up in half as many ranges as frames, or in as many scattered pieces: calls with the record that it came from, and soundness without.
+// Calls where many ranges hold one backing, with the record that it came from, and soundness without.
 fn works_of_one_backing(s: Store, pool: &mut [u8], dropped: bool, mode: u8) {
     if dropped {
-        let r = calls::drop_object(s, 0);
-        let t = r.store;
+        let t = without_source(s);
         measure(1, t, pool, 1, 1, mode);
         return;
     }
@@ -370,34 +400,53 @@ fn works_of_one_backing(s: Store, pool: &mut [u8], dropped: bool, mode: u8) {
     measured(13, 15, s, pool, 1, 1, mode);
 }
 
-fn growth_cut_up(pool: &mut [u8], dropped: bool, mode: u8) {
+// A backing in half as many pieces as frames, in as many scattered ones, in a long window and short ones, or in windows that overlap; k doubles the pieces.
+fn one_backing(pool: &mut [u8], kind: u8, k: usize) -> Store
+    requires { ⌜ k < 7 ⌝ }
+{
+    match kind {
+        0 => cut_in(pool, halved(1012, k, 16)),
+        1 => fills::scattered_pieces(pool, halved(500, k, 8)),
+        2 => fills::long_and_short(pool, halved(400, k, 8)),
+        _ => fills::overlapping(pool, halved(500, k, 8)),
+    }
+}
+
+fn cut_in(pool: &mut [u8], n: usize) -> Store
+    requires { ⌜ (16 ≤ n) × (n ≤ 1012) ⌝ }
+{
+    fills::shared_by_many(pool, n, n / 4, 1)
+}
+
+fn growth_of(pool: &mut [u8], kind: u8, dropped: bool, mode: u8) {
     let mut k: usize = 0;
     while k < 7 {
-        let n = halved(1012, k, 16);
-        let s = fills::shared_by_many(pool, n, n / 4, 1);
+        let s = one_backing(pool, kind, k);
         works_of_one_backing(s, pool, dropped, mode);
         k += 1;
     }
 }
 
-fn growth_scattered(pool: &mut [u8], dropped: bool, mode: u8) {
-    let mut k: usize = 0;
-    while k < 7 {
-        let s = fills::scattered_pieces(pool, halved(500, k, 8));
-        works_of_one_backing(s, pool, dropped, mode);
-        k += 1;
+fn kind_name(kind: u8) -> bool {
+    match kind {
+        0 => io::write_all(1, b"# one backing cut up"),
+        1 => io::write_all(1, b"# pieces scattered"),
+        2 => io::write_all(1, b"# a long window beside short ones"),
+        _ => io::write_all(1, b"# windows overlap"),
     }
 }
 
 fn grown_of_one_backing(pool: &mut [u8], mode: u8) {
-    io::write_all(1, b"# one backing cut up\n");
-    growth_cut_up(pool, false, mode);
-    io::write_all(1, b"# one backing cut up, source dropped\n");
-    growth_cut_up(pool, true, mode);
-    io::write_all(1, b"# pieces scattered\n");
-    growth_scattered(pool, false, mode);
-    io::write_all(1, b"# pieces scattered, source dropped\n");
-    growth_scattered(pool, true, mode);
+    let mut kind: u8 = 0;
+    while kind < 4 {
+        kind_name(kind);
+        io::write_all(1, b"\n");
+        growth_of(pool, kind, false, mode);
+        kind_name(kind);
+        io::write_all(1, b", source dropped\n");
+        growth_of(pool, kind, true, mode);
+        kind += 1;
+    }
 }
 
 fn grown(pool: &mut [u8], mode: u8) {

@@ -24,7 +24,7 @@ ghost use Rattle.seek.specs.Held.{Held};
 
 // n bytes from place k of page g of the line, looked for from the slot `hint` on, stored in buf from index at: a slot to begin at for the next page.
 // "Absent bytes read as zero."
-pub fn read_page(
+fn read_page(
     sheet: &[u64; 2579],
     links: &[u16; 2048],
     pool: &[u8],
@@ -89,7 +89,7 @@ pub struct Over {
 
 // m bytes of src, from index `from`, written to the page that offset lies in, where that is present and private: the store stays. Else nothing is
 // written, and the answer is no. The page is looked for from the slot `hint` on.
-pub fn overwrite_page(
+fn overwrite_page(
     sheet: &[u64; 2579],
     holders: &[u16; 2048],
     links: &[u16; 2048],

@@ -33,14 +33,7 @@ fn added_if(so: bool, s: Store, pool: &mut [u8], object: u32, page: usize) -> St
 }
 
 // The wanted pages of the n from `page` on, in rising order: one range. Frames are handed out from the highest down, so they fall.
-pub fn run_added(
-    s: Store,
-    pool: &mut [u8],
-    object: u32,
-    page: usize,
-    n: usize,
-    every: usize,
-) -> Store
+fn run_added(s: Store, pool: &mut [u8], object: u32, page: usize, n: usize, every: usize) -> Store
     requires { ⌜ (page + n ≤ 262144) × (0 < every) ⌝ }
 {
     let mut t = s;
@@ -89,14 +82,7 @@ fn rest_added(
 
 // n pages of one range, all present. Order 0: in rising order. Order 1 and 2: each sixteenth first, which covers them all; then the rest in a
 // scattered order, or in falling order, so that the frames rise.
-pub fn range_added(
-    s: Store,
-    pool: &mut [u8],
-    object: u32,
-    page: usize,
-    n: usize,
-    order: u8,
-) -> Store
+fn range_added(s: Store, pool: &mut [u8], object: u32, page: usize, n: usize, order: u8) -> Store
     requires { ⌜ page + n ≤ 262144 ⌝ }
 {
     if order == 0 {
@@ -268,6 +254,45 @@ pub fn scattered_pieces(pool: &mut [u8], pieces: usize) -> Store
         let from = 2 * k * PageNumber::PAGE_SIZE;
         let to = k * 337 % 1021 * PageNumber::PAGE_SIZE;
         let r = copies::copy_ranges(t, pool, 0, from, 1, to, PageNumber::PAGE_SIZE);
+        t = r.store;
+        k += 1;
+    }
+    t
+}
+
+// A record 0 of one range, as `record` makes it with each sixteenth of 8,192 pages present; its last 1,792 pages are copied to record 2, and so many single ones of the first
+// to record 1, in a scattered order: a long window beside short ones of one backing.
+pub fn long_and_short(pool: &mut [u8], pieces: usize) -> Store
+    requires { ⌜ pieces ≤ 400 ⌝ }
+{
+    let s = record(pool, 8192, 1, 16);
+    let from = 6400 * PageNumber::PAGE_SIZE;
+    let r = copies::copy_ranges(s, pool, 0, from, 2, 0, 1792 * PageNumber::PAGE_SIZE);
+    let mut t = r.store;
+    let mut k: usize = 0;
+    while k < pieces {
+        let page = 16 * k * PageNumber::PAGE_SIZE;
+        let to = k * 337 % 1021 * PageNumber::PAGE_SIZE;
+        let q = copies::copy_ranges(t, pool, 0, page, 1, to, PageNumber::PAGE_SIZE);
+        t = q.store;
+        k += 1;
+    }
+    t
+}
+
+// Record 0 has one range of 1,024 pages, its frames in a scattered order; so many parts of it, 512 pages each, are copied to records 1 and 2, from pages in a scattered order:
+// windows of one backing that overlap.
+pub fn overlapping(pool: &mut [u8], pieces: usize) -> Store
+    requires { ⌜ pieces ≤ 500 ⌝ }
+{
+    let s = empty();
+    let mut t = range_added(s, pool, 0, 0, 1024, 1);
+    let mut k: usize = 0;
+    while k < pieces {
+        let from = k * 337 % 509 * PageNumber::PAGE_SIZE;
+        let to = k % 250 * 600 * PageNumber::PAGE_SIZE;
+        let object = 1 + ((k / 250) as u32);
+        let r = copies::copy_ranges(t, pool, 0, from, object, to, 512 * PageNumber::PAGE_SIZE);
         t = r.store;
         k += 1;
     }

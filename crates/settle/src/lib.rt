@@ -41,7 +41,7 @@ pub enum OldPlace {
     Was(Place),
 }
 
-pub fn old_place(sheet: &[u64; 2579], g: usize) -> OldPlace
+fn old_place(sheet: &[u64; 2579], g: usize) -> OldPlace
     requires { ⌜ (Table (storeOf (now sheet) .ranges) (storeOf (now sheet) .count)) × (g < 1000000000000000000) ⌝ }
     ensures { λ q. ⌜ slotAt g (rangesOf (used (storeOf (now (sheet .entry))))) ≡ oldSlot q ⌝ }
 {

@@ -26,7 +26,7 @@ pub fn is_live(live: u32, object: u32) -> bool
 }
 
 // "ends by page 262,144", for any first page.
-pub fn ends_within(start: usize, length: u32) -> bool
+fn ends_within(start: usize, length: u32) -> bool
     ensures { λ q. ⌜ q ≡ leb (start + length) 262144 ⌝ }
 {
     if 262144 < start {
@@ -56,7 +56,7 @@ fn lies(r: PageRange, live: u32, low: usize) -> bool
 }
 
 // Whether there is no backing.
-pub fn is_nothing(k: BackingPages) -> bool
+fn is_nothing(k: BackingPages) -> bool
     ensures { λ q. ⌜ q ≡ isNothing? k ⌝ }
 {
     match k {
@@ -67,7 +67,7 @@ pub fn is_nothing(k: BackingPages) -> bool
 }
 
 // A slot is zero.
-pub fn zero_slot(r: PageRange) -> bool
+fn zero_slot(r: PageRange) -> bool
     ensures { λ q. ⌜ q ≡ zero? r ⌝ }
 {
     let k = r.backing;
@@ -125,7 +125,7 @@ fn fits(tag: u64, span: u64) -> bool
 }
 
 // Two backings of one number, by their tags, are of one kind.
-pub fn same_kind(x: u64, y: u64) -> bool
+fn same_kind(x: u64, y: u64) -> bool
     ensures { λ q. ⌜ q ≡ alikeIn x y ⌝ }
 {
     (x < 4294967296) | ((y < 4294967296) | ((x == y) | (x % 4294967296 != y % 4294967296)))
@@ -133,7 +133,7 @@ pub fn same_kind(x: u64, y: u64) -> bool
 
 // The backing of range i agrees with that of every range before it, where those agree: a walk along its chain from link `first` on, the links standing behind 1,024
 // heads, to the first of its own backing.
-pub fn agrees(tags: &[u64], links: &[u16; 2048], i: usize, first: usize) -> bool
+fn agrees(tags: &[u64], links: &[u16; 2048], i: usize, first: usize) -> bool
     requires { ⌜ (i < length (now tags)) × Walk (drop 1024 (now links)) (alikeTo (now tags) i) i first × (allBelow (λ j. allBelow (alikeTo (now tags) j) j) i ≡ true) × (length (now tags) ≤ 1024) ⌝ }
     ensures { λ q. ⌜ q ≡ allBelow (alikeTo (now (tags .entry)) i) i ⌝ }
 {

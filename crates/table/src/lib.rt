@@ -88,7 +88,7 @@ impl PageRange {
 }
 
 // A range without its first k pages: start, length and offset move, the backing stays.
-pub fn shortened(r: PageRange, k: u32) -> PageRange
+fn shortened(r: PageRange, k: u32) -> PageRange
     requires { ⌜ (Small r) × (k ≤ r .length) ⌝ }
     ensures { λ q. ⌜ ranged q ≡ skip k (ranged r) ⌝ }
 {

@@ -1,25 +1,22 @@
--- `bench::growth_cut_up` meets its contract. The loop's invariant bounds the fills.
+-- `bench::growth_of` meets its contract. The loop's invariant bounds the fills.
 use mathlib.Core.Path.{_≡_}
 use Prim.Native.Nat.{_-_, _≤_}
 use lib.ListN.{length}
 use borrow.Author.Needs.{needs}
-use Rattle.bench.proofs.growth_cut_up.Statement.{statement}
-use Rattle.bench.proofs.growth_cut_up.Tie as tie
+use Rattle.bench.proofs.growth_of.Statement.{statement}
+use Rattle.bench.proofs.growth_of.Tie as tie
 
 abbrev Inv-loop : tie.InvT-loop
-Inv-loop pool₀ dropped mode k₀ pool k = (length pool ≡ length pool₀) × (k ≤ 7)
+Inv-loop pool₀ kind dropped mode k₀ pool k = (length pool ≡ length pool₀) × (k ≤ 7)
 
 abbrev μ-loop : tie.MeasureT-loop
-μ-loop pool₀ dropped mode k₀ pool k = 7 - k
+μ-loop pool₀ kind dropped mode k₀ pool k = 7 - k
 
 loop-holds : tie.Need-loop-holds Inv-loop μ-loop
 loop-holds c = search needs
 
-halved-requires : tie.Need-halved-requires Inv-loop μ-loop
-halved-requires c κs = search needs
-
-shared-by-many-requires : tie.Need-shared-by-many-requires Inv-loop μ-loop
-shared-by-many-requires c κs = search needs
+one-backing-requires : tie.Need-one-backing-requires Inv-loop μ-loop
+one-backing-requires c κs = search needs
 
 works-of-one-backing-requires : tie.Need-works-of-one-backing-requires Inv-loop μ-loop
 works-of-one-backing-requires c κs = search needs
@@ -39,15 +36,14 @@ same-length c = search needs
 returns : tie.Need-returns Inv-loop μ-loop
 returns c = search needs
 
-pub growth-cut-up-spec : {M : Type 1} → statement M
-growth-cut-up-spec =
+pub growth-of-spec : {M : Type 1} → statement M
+growth-of-spec =
     tie.close
     (tie.spec
     Inv-loop
     μ-loop
     loop-holds
-    halved-requires
-    shared-by-many-requires
+    one-backing-requires
     works-of-one-backing-requires
     add-k
     loop-less
