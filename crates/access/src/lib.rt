@@ -29,8 +29,8 @@ pub fn add(s: Store, pool: &mut [u8], object: u32, page: PageNumber) -> Added
     sound::load(s, &mut sheet);
     let ranges = s.ranges;
     let rows = sound_ranges::rows(ranges, s.count, s.live, &mut sheet);
-    let sound = sound::examine(rows, &sheet, &mut holders, &mut links);
-    let k = enter::add(sound, &sheet, pool.len(), object, page);
+    let ok = sound::examine(rows, &sheet, &mut holders, &mut links);
+    let k = enter::add(ok, &sheet, pool.len(), object, page);
     if 0 < k {
         return Added {
             store: s,
@@ -68,8 +68,8 @@ pub fn read(s: Store, pool: &[u8], object: u32, offset: usize, buf: &mut [u8]) -
     sound::load(s, &mut sheet);
     let ranges = s.ranges;
     let rows = sound_ranges::rows(ranges, s.count, s.live, &mut sheet);
-    let sound = sound::examine(rows, &sheet, &mut holders, &mut links);
-    let k = enter::read(sound, &sheet, pool.len(), object, offset, n);
+    let ok = sound::examine(rows, &sheet, &mut holders, &mut links);
+    let k = enter::read(ok, &sheet, pool.len(), object, offset, n);
     if 0 < k {
         return k;
     }
@@ -108,17 +108,8 @@ pub fn write(s: Store, pool: &mut [u8], object: u32, offset: usize, src: &[u8]) 
     sound::load(s, &mut sheet);
     let ranges = s.ranges;
     let rows = sound_ranges::rows(ranges, s.count, s.live, &mut sheet);
-    let sound = sound::examine(rows, &sheet, &mut holders, &mut links);
-    let k = enter::write(
-        sound,
-        &sheet,
-        &holders,
-        &links,
-        pool.len(),
-        object,
-        offset,
-        n,
-    );
+    let ok = sound::examine(rows, &sheet, &mut holders, &mut links);
+    let k = enter::write(ok, &sheet, &holders, &links, pool.len(), object, offset, n);
     let done = overwritten(k, &sheet, &holders, &links, pool, object, offset, src);
     if (0 < k) | (done == n) {
         return Reply {

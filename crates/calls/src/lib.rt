@@ -36,8 +36,8 @@ pub fn new_object(s: Store, object: u32) -> Reply
     sound::load(s, &mut sheet);
     let ranges = s.ranges;
     let rows = sound_ranges::rows(ranges, s.count, s.live, &mut sheet);
-    let sound = sound::examine(rows, &sheet, &mut holders, &mut links);
-    let k = enter::new_object(sound, &sheet, object);
+    let ok = sound::examine(rows, &sheet, &mut holders, &mut links);
+    let k = enter::new_object(ok, &sheet, object);
     if 0 < k {
         return Reply {
             store: s,
@@ -75,8 +75,8 @@ pub fn look_up(s: Store, object: u32, page: PageNumber) -> Looked
     sound::load(s, &mut sheet);
     let ranges = s.ranges;
     let rows = sound_ranges::rows(ranges, s.count, s.live, &mut sheet);
-    let sound = sound::examine(rows, &sheet, &mut holders, &mut links);
-    let k = enter::look_up(sound, &sheet, object, page);
+    let ok = sound::examine(rows, &sheet, &mut holders, &mut links);
+    let k = enter::look_up(ok, &sheet, object, page);
     if 0 < k {
         return Looked {
             number: k,
@@ -191,8 +191,8 @@ pub fn drop_object(s: Store, object: u32) -> Reply
     sound::load(s, &mut sheet);
     let ranges = s.ranges;
     let rows = sound_ranges::rows(ranges, s.count, s.live, &mut sheet);
-    let sound = sound::examine(rows, &sheet, &mut holders, &mut links);
-    let k = enter::drop_object(sound, &sheet, object);
+    let ok = sound::examine(rows, &sheet, &mut holders, &mut links);
+    let k = enter::drop_object(ok, &sheet, object);
     if 0 < k {
         return Reply {
             store: s,

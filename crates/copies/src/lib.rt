@@ -1,5 +1,6 @@
 // COPYING AND ZEROING. Each call takes any store, any pool and any arguments. Its number is 0, or that of the table.
 use calls::Reply;
+use enter::Passage;
 use page::PageNumber;
 use store::Store;
 ghost use mathlib.Core.Path.{_≡_};
@@ -36,17 +37,8 @@ pub fn zero_ranges(s: Store, pool: &mut [u8], object: u32, offset: usize, n: usi
     sound::load(s, &mut sheet);
     let ranges = s.ranges;
     let rows = sound_ranges::rows(ranges, s.count, s.live, &mut sheet);
-    let sound = sound::examine(rows, &sheet, &mut holders, &mut links);
-    let k = enter::zero(
-        sound,
-        &sheet,
-        &holders,
-        &links,
-        pool.len(),
-        object,
-        offset,
-        n,
-    );
+    let ok = sound::examine(rows, &sheet, &mut holders, &mut links);
+    let k = enter::zero(ok, &sheet, &holders, &links, pool.len(), object, offset, n);
     if 0 < k {
         return Reply {
             store: s,
@@ -109,20 +101,26 @@ fn copy_span(
     holders: &[u16; 2048],
     links: &[u16; 2048],
     pool: &mut [u8],
-    source: u32,
-    from: usize,
-    object: u32,
-    to: usize,
-    n: usize,
+    c: Passage,
 )
-    requires { ⌜ (length (now sheet) ≡ 2579) × (CopyRoom (storeOf (now sheet)) (now pool) source from object to n) × (Charted (now sheet) (now links)) × (Held (now sheet) (now holders)) ⌝ }
-    ensures { λ _. ⌜ (Worked (storeOf (now (sheet .entry))) (now (pool .entry)) (copying source from object to n (workOf (storeOf (now (sheet .entry))) (now (pool .entry)))) (storeOf (now (sheet .exit))) (now (pool .exit))) × (length (now (sheet .exit)) ≡ 2579) ⌝ }
+    requires { ⌜ (length (now sheet) ≡ 2579) × (CopyRoom (storeOf (now sheet)) (now pool) (c .source) (c .from) (c .object) (c .to) (c .n)) × (Charted (now sheet) (now links)) × (Held (now sheet) (now holders)) ⌝ }
+    ensures { λ _. ⌜ (Worked (storeOf (now (sheet .entry))) (now (pool .entry)) (copying (c .source) (c .from) (c .object) (c .to) (c .n) (workOf (storeOf (now (sheet .entry))) (now (pool .entry)))) (storeOf (now (sheet .exit))) (now (pool .exit))) × (length (now (sheet .exit)) ≡ 2579) ⌝ }
 {
-    if PageNumber::place(from) == PageNumber::place(to) {
-        copy_equal(sheet, links, pool, source, from, object, to, n);
+    if PageNumber::place(c.from) == PageNumber::place(c.to) {
+        copy_equal(sheet, links, pool, c.source, c.from, c.object, c.to, c.n);
         return;
     }
-    writing::copy_over(sheet, holders, links, pool, source, from, object, to, n);
+    writing::copy_over(
+        sheet,
+        holders,
+        links,
+        pool,
+        c.source,
+        c.from,
+        c.object,
+        c.to,
+        c.n,
+    );
 }
 
 pub fn copy_ranges(
@@ -142,36 +140,16 @@ pub fn copy_ranges(
     sound::load(s, &mut sheet);
     let ranges = s.ranges;
     let rows = sound_ranges::rows(ranges, s.count, s.live, &mut sheet);
-    let sound = sound::examine(rows, &sheet, &mut holders, &mut links);
-    let k = enter::copy(
-        sound,
-        &sheet,
-        &holders,
-        &links,
-        pool.len(),
-        source,
-        from,
-        object,
-        to,
-        n,
-    );
+    let ok = sound::examine(rows, &sheet, &mut holders, &mut links);
+    let c = Passage::new(source, from, object, to, n);
+    let k = enter::copy(ok, &sheet, &holders, &links, pool.len(), c);
     if 0 < k {
         return Reply {
             store: s,
             number: k,
         };
     }
-    copy_span(
-        &mut sheet,
-        &holders,
-        &links,
-        pool,
-        source,
-        from,
-        object,
-        to,
-        n,
-    );
+    copy_span(&mut sheet, &holders, &links, pool, c);
     let frames = sheet::frames(&sheet);
     let ranges = closing::ranges_of(&sheet);
     let places = closing::places_of(&sheet);
@@ -207,8 +185,8 @@ pub fn copy_range_to_shadow(
     sound::load(s, &mut sheet);
     let ranges = s.ranges;
     let rows = sound_ranges::rows(ranges, s.count, s.live, &mut sheet);
-    let sound = sound::examine(rows, &sheet, &mut holders, &mut links);
-    let k = enter::shadow(sound, &sheet, pool.len(), source, from, object, to, n);
+    let ok = sound::examine(rows, &sheet, &mut holders, &mut links);
+    let k = enter::shadow(ok, &sheet, pool.len(), source, from, object, to, n);
     if 0 < k {
         return Reply {
             store: s,

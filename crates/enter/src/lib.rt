@@ -12,6 +12,29 @@ ghost use Rattle.seek.specs.Framed.{Framed};
 ghost use Rattle.seek.specs.Held.{Held};
 ghost use Rattle.enter.specs.Enter.{verdict};
 
+// A copy: n bytes of the object `source`, from the offset `from` on, and where they go, to `object` from the offset `to` on.
+pub struct Passage {
+    pub source: u32,
+    pub from: usize,
+    pub object: u32,
+    pub to: usize,
+    pub n: usize,
+}
+
+impl Passage {
+    pub fn new(source: u32, from: usize, object: u32, to: usize, n: usize) -> Passage
+        ensures { λ r. ⌜ r ≡ record { source = source; from = from; object = object; to = to; n = n } ⌝ }
+    {
+        Passage {
+            source,
+            from,
+            object,
+            to,
+            n,
+        }
+    }
+}
+
 pub fn new_object(sound: bool, sheet: &[u64; 2579], object: u32) -> u8
     requires { ⌜ (sound ≡ true → Sound (storeOf (now sheet))) ⌝ }
     ensures { λ q. ⌜ ((x : List ℕ) → q ≡ verdict sound (storeOf (now (sheet .entry))) x (newObject object)) ⌝ }
@@ -104,17 +127,23 @@ pub fn copy(
     holders: &[u16; 2048],
     links: &[u16; 2048],
     pool: usize,
-    source: u32,
-    from: usize,
-    object: u32,
-    to: usize,
-    n: usize,
+    c: Passage,
 ) -> u8
     requires { ⌜ (sound ≡ true → (Sound (storeOf (now sheet))) × (Framed (now sheet) (now links)) × (Held (now sheet) (now holders))) ⌝ }
-    ensures { λ q. ⌜ ((x : List ℕ) → length x ≡ pool → q ≡ verdict sound (storeOf (now (sheet .entry))) x (copy source from object to n)) ⌝ }
+    ensures { λ q. ⌜ ((x : List ℕ) → length x ≡ pool → q ≡ verdict sound (storeOf (now (sheet .entry))) x (copy (c .source) (c .from) (c .object) (c .to) (c .n))) ⌝ }
 {
     if sound {
-        return judge::copy(sheet, holders, links, pool, source, from, object, to, n);
+        return judge::copy(
+            sheet,
+            holders,
+            links,
+            pool,
+            c.source,
+            c.from,
+            c.object,
+            c.to,
+            c.n,
+        );
     }
     1
 }

@@ -21,8 +21,8 @@ fn frame_shown(s: Store, pool: usize, object: u32, page: PageNumber) -> Frame
     sound::load(s, &mut sheet);
     let ranges = s.ranges;
     let rows = sound_ranges::rows(ranges, s.count, s.live, &mut sheet);
-    let sound = sound::examine(rows, &sheet, &mut holders, &mut links);
-    let k = enter::show(sound, &sheet, pool, object, page);
+    let ok = sound::examine(rows, &sheet, &mut holders, &mut links);
+    let k = enter::show(ok, &sheet, pool, object, page);
     if 0 < k {
         return Frame::Nothing;
     }
