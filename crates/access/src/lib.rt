@@ -1,4 +1,6 @@
 // THE CALLS THAT LEND A POOL AND WORK ON BYTES OF PAGES. Each takes any store, any pool and any arguments. Its number is 0, or that of the table.
+#![tactic(auto)]
+
 ghost use Rattle.std.specs.Prelude.{◌≡◌, ◌<◌, length};
 ghost use Rattle.book.specs.Book.{add, read, write, added, bytes, done};
 ghost use Rattle.calls.specs.With.{DidWith};

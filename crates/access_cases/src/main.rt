@@ -1,4 +1,6 @@
 // Runs reads and writes at the ends of an object, at the edges of pages and over pages that are absent. Answers are written by hand from document 01. One line a case.
+#![tactic(auto)]
+
 ghost use Rattle.std.specs.Prelude.{◌+◌, ◌≤◌};
 
 use access_samples::{

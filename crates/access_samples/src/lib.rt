@@ -1,4 +1,6 @@
 // What the programs that run add, read and write share: small stores and pools, and the comparing of answers. Backings are compared as document 01 has them: their numbers and kinds are free.
+#![tactic(auto)]
+
 ghost use Rattle.std.specs.Prelude.{◌<◌, ◌≤◌, length};
 
 use access::Added;

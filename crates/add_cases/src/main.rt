@@ -1,4 +1,6 @@
 // Runs add where a page starts a range, joins one, is replaced or is cut out of a shared one. Answers are written by hand from document 01. One line a case.
+#![tactic(auto)]
+
 use access_samples::{
     adds, bare, free, halves, high, holed, lone, pair, small, stand, table, unused,
 };

@@ -1,6 +1,8 @@
 // WHAT THE CALLS COST. Each line has a work, the frames and the ranges in use, and a number. With no input that is how many of three turns went as they
 // should, and `rt ci` compares; with a digit as input, of so many turns. With a letter it is the nanoseconds of one turn: the turns are doubled until they
 // take 0.02 seconds of processor time. `g`: how cost grows. Any other: the table. bench/run has what each work is.
+#![tactic(auto)]
+
 ghost use Rattle.std.specs.Prelude.{◌+◌, ◌*◌, ◌≤◌, ◌<◌};
 
 use store::Store;

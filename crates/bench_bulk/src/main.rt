@@ -1,5 +1,7 @@
 // WHAT MANY BYTES COST: 4 MiB read and written in one call and in calls of a page, 2 MiB copied to unequal places. Lines as in crates/bench. With no input the
 // buffer has 1 MiB, so that the program runs with a stack of 8 MiB; bench/run lends it a larger one.
+#![tactic(auto)]
+
 ghost use Rattle.std.specs.Prelude.{◌≡◌, ◌+◌, ◌*◌, ◌≤◌, ◌<◌, length};
 
 use store::Store;

@@ -1,1 +1,2 @@
 // Document 01's run book. Definitions and laws only: see specs/.
+#![tactic(auto)]

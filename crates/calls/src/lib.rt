@@ -1,4 +1,6 @@
 // THE CALLS THAT NEED NO BYTES OF A PAGE. Each takes any store and any arguments. Its number is 0, or that of the table.
+#![tactic(auto)]
+
 ghost use Rattle.std.specs.Prelude.{◌≡◌, true, List, ℕ, ◌+◌, ◌≤◌, ◌<◌, length, take};
 ghost use Rattle.ranges.specs.Range.{line, carve};
 ghost use Rattle.table.specs.Table.{ranged_of};

@@ -1,5 +1,7 @@
 // Chains through a table, so that the entries of one key are found without going through all. An entry's chain is that of its key's remainder by
 // 1,024: keys may meet in a chain, which costs time alone. A link is one more than the entry that it leads to, always a lower one; 0 is the end.
+#![tactic(auto)]
+
 ghost use Rattle.std.specs.Prelude.{◌≡◌, ◌≤◌, drop, length, replicate, take};
 ghost use Rattle.chains.specs.Chains.{Chained, keyed};
 

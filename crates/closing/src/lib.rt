@@ -1,4 +1,6 @@
 // THE WAY OUT OF A CALL: a store made of its sheet, with the free map made anew.
+#![tactic(auto)]
+
 ghost use Rattle.std.specs.Prelude.{◌≡◌, ◌+◌, ◌≤◌};
 ghost use Rattle.places.specs.Places.{FreeMap};
 ghost use Rattle.places.specs.Map.{Vacant, Word};

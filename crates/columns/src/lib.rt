@@ -1,5 +1,7 @@
 // Tables of structs as arrays of numbers. A table that is passed by value is copied at each call, and no table of structs can be lent; an array of
 // numbers can, so a test that goes through a table again and again makes its columns once and lends them.
+#![tactic(auto)]
+
 ghost use Rattle.columns.specs.Ranges.{Span, Tag};
 
 use table::{BackingPages, PageRange};

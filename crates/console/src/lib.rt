@@ -1,5 +1,7 @@
 // STANDARD INPUT TO STANDARD OUTPUT, line by line. Input is read in parts of up to 65,536 bytes, each line is answered by `lines::answer`, and what is
 // printed is written when a part is done or the buffer is nearly full. So a person at a terminal sees each answer at once, and a pipe gets large writes.
+#![tactic(auto)]
+
 ghost use Rattle.std.specs.Prelude.{true, ◌≡◌, [], ◌∷◌, ◌++◌, ◌+◌, ◌≤◌, ◌<◌, min, length, take, drop};
 ghost use Rattle.console.specs.Lines.{feed, cut, last};
 ghost use Rattle.console.specs.Answers.{Answers, Spoke, Done, Fed};

@@ -1,4 +1,6 @@
 // COPYING AND ZEROING. Each call takes any store, any pool and any arguments. Its number is 0, or that of the table.
+#![tactic(auto)]
+
 ghost use Rattle.std.specs.Prelude.{◌≡◌, ◌+◌, length};
 ghost use Rattle.book.specs.Copy.{copy_equal, copying, zeroing};
 ghost use Rattle.book.specs.Book.{copy, shadow, zero_out, done};

@@ -1,4 +1,6 @@
 // Runs copies of bytes, from and to pages that are present, absent or shared. Answers are written by hand from document 01. One line a case.
+#![tactic(auto)]
+
 ghost use Rattle.std.specs.Prelude.{◌+◌, ◌≤◌};
 
 use access_samples::{

@@ -1,4 +1,6 @@
 // Runs copies and shadow copies where the last frame or the last slot is taken, and where too few are free. Answers are written by hand from document 01. One line a case.
+#![tactic(auto)]
+
 ghost use Rattle.std.specs.Prelude.{◌≤◌};
 
 use access_samples::{five, free, fresh, high, leaves, paged, pair, small, stand, table, unused};

@@ -1,4 +1,6 @@
 // Runs copies and shadow copies through the table of refusals. Answers are written by hand from document 01. One line a case.
+#![tactic(auto)]
+
 ghost use Rattle.std.specs.Prelude.{◌≤◌};
 
 use access_samples::{halves, high, paged, small, table, unused};

@@ -1,4 +1,6 @@
 // What the programs that run copies, shadow copies and zeroing share: cases that are done, and cases that are refused.
+#![tactic(auto)]
+
 ghost use Rattle.std.specs.Prelude.{◌≤◌, length};
 
 use access_samples::{five, free, high, leaves, small};

@@ -1,4 +1,6 @@
 // The table of ranges as one value, with its count. Definitions and laws of a range put in and of pages cut out: see specs/.
+#![tactic(auto)]
+
 use table::PageRange;
 
 // A table of ranges: the first `count` slots are used.

@@ -1,4 +1,6 @@
 // THE WAY INTO A CALL: of a store that was examined and is in its sheet, the call's number is that of the table of refusals, or 0.
+#![tactic(auto)]
+
 ghost use Rattle.std.specs.Prelude.{◌≡◌, true, List, ℕ, length};
 ghost use Rattle.book.specs.Book.{new_object, drop_object, add, look_up, show, read, write, copy, shadow, zero_out};
 ghost use Rattle.store.specs.Sound.{Sound};

@@ -1,4 +1,6 @@
 // Bytes of an object read, written over where they are, and copied over those of another object, page by page, with the store on a sheet.
+#![tactic(auto)]
+
 ghost use Rattle.std.specs.Prelude.{◌≡◌, true, false, ◌+◌, ◌*◌, ◌/◌, ◌%◌, ◌≤◌, ◌<◌, length, drop, take};
 ghost use Rattle.std.proofs.Math.Seq.{paste};
 ghost use Rattle.book.specs.Page.{over};

@@ -1,4 +1,6 @@
 // STORES OF 1,024 FRAMES, FILLED BY CALLS ALONE, for the programs that measure. Names 0 to 30 are live; record 30 has no page, and name 31 is unused.
+#![tactic(auto)]
+
 ghost use Rattle.std.specs.Prelude.{◌+◌, ◌*◌, ◌≤◌, ◌<◌};
 
 use page::PageNumber;

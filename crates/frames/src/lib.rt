@@ -1,4 +1,6 @@
 // The map of free frames: one bit each, in sixteen words of 64. Frame f is bit f % 64 of word f / 64, set while the frame is free.
+#![tactic(auto)]
+
 ghost use Rattle.std.specs.Prelude.{◌≡◌, ◌<◌};
 ghost use Rattle.std.specs.Int.Count.{count_leading_zeros};
 ghost use Rattle.frames.specs.Free.{Top};

@@ -1,5 +1,7 @@
 // Runs the functions of `frames`, `places`, `sheet`, `settle`, `steps` and `closing` that work on frames, on edge values, and compares with answers written here by hand.
 // One line each: the case, and ok or WRONG.
+#![tactic(auto)]
+
 ghost use Rattle.std.specs.Prelude.{◌≡◌, ◌<◌, ◌≤◌, length};
 ghost use Rattle.sheet.specs.Sheet.{store_of};
 

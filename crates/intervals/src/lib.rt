@@ -1,5 +1,7 @@
 // INTERVALS OF SPOTS THAT THE WINDOWS OF RANGES COVER, in chains by the blocks of indices that they meet: whether a spot lies in a window is found in time that does not grow
 // with the ranges.
+#![tactic(auto)]
+
 ghost use Rattle.std.specs.Prelude.{◌≡◌, List, ℕ, ◌+◌, ◌-◌, ◌/◌, ◌%◌, ◌^◌, ◌≤◌, ◌<◌, min, length, replicate};
 ghost use Rattle.intervals.specs.Intervals.{key_of, Cover, Entered, Filed, FoundIn, Joined, Least, Most, Put, Shown, Sized};
 

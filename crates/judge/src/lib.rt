@@ -1,4 +1,6 @@
 // WHY A CALL IS TURNED DOWN, of a sound store on a sheet: for each call its number of the table, or 0.
+#![tactic(auto)]
+
 ghost use Rattle.std.specs.Prelude.{◌≡◌, List, ℕ, ◌+◌, ◌*◌, ◌≤◌, ◌<◌, length};
 ghost use Rattle.ranges.specs.Table.{parts};
 ghost use Rattle.book.specs.Need.{state_of, wanted, counted, partly, counted_parts, needing, need_write, need_whole, need_copy, need_zero};

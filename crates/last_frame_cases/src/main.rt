@@ -1,4 +1,6 @@
 // Runs add and write where the last frame is taken, and where too few are free. Answers are written by hand from document 01. One line a case.
+#![tactic(auto)]
+
 use access_samples::{
     add_refused, adds, free, fresh, high, leaves, lone, puts, small, stand, table, turned, unused,
     write_refused,

@@ -1,4 +1,6 @@
 // Runs add, read and write where they are refused, and where the last slot is taken. Answers are written by hand from document 01. One line a case.
+#![tactic(auto)]
+
 ghost use Rattle.std.specs.Prelude.{◌<◌, ◌≤◌};
 
 use access_samples::{

@@ -1,4 +1,6 @@
 // The line program again. Its stored run has each code, and each refusal that lines can reach (model/make).
+#![tactic(auto)]
+
 fn main() {
     console::start();
 }

@@ -1,1 +1,2 @@
 // Lists of lines, and what is printed for them. Definitions and laws only: see specs/.
+#![tactic(auto)]

@@ -4,7 +4,7 @@ use Rattle.std.proofs.Math.Path.{ap, sym}
 use Rattle.std.proofs.Common.{subst, ◌∙◌, arith, length-take-le}
 use Rattle.std.proofs.Math.Option.{Option, none, some}
 use Rattle.store.specs.declared.Store.{Store}
-use Rattle.hex.specs.Hex.{digits_of}
+use Rattle.hexadecimal.specs.Hex.{digits_of}
 use Rattle.book.specs.Book.{Call, Answer, Done, pool_after}
 use Rattle.store.specs.Abs.{book_of}
 use Rattle.store.specs.Sound.{sound?}

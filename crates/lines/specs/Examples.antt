@@ -4,7 +4,7 @@ use Rattle.std.proofs.Math.Option.{Option, none, some}
 use Prim.Native.String.{String}
 use Rattle.book.specs.Compute.{computing}
 use Rattle.book.specs.Book.{Call, new_object, drop_object, write, read, add, look_up, copy, shadow, zero_out, counts, created}
-use Rattle.hex.specs.Hex.{value_of, bytes_of, digits_of}
+use Rattle.hexadecimal.specs.Hex.{value_of, bytes_of, digits_of}
 use Rattle.replies.specs.Line.{rows, chosen, parse, spoken, line_answer, line_answers}
 use Rattle.lines.specs.Text.{codes}
 

@@ -8,7 +8,7 @@ use Rattle.std.proofs.Math.Option.{none, some}
 use Rattle.std.proofs.Math.Dec.{leb, eqb}
 use borrow.Author.Tests.{eqb-true, leb-true, ne_eqb, not-true, not-false, lt-ltb, le-ltb, lt-leb, le-leb}
 use Rattle.lists.specs.Test.{pick, by-test}
-use Rattle.hex.specs.Hex.{bytes_of, bytes_in}
+use Rattle.hexadecimal.specs.Hex.{bytes_of, bytes_in}
 use Rattle.book.specs.Book.{Call, new_object, drop_object, write, read, add, look_up, copy, shadow, zero_out, counts}
 use Rattle.replies.specs.Line.{byte_at, four_at, Row, rows, chosen, call_of, call_in, parse}
 

@@ -1,4 +1,6 @@
 // ONE LINE OF THE LINE PROGRAM: the call that it asks for is made, and its answer is put into digits. Any store, any pool and any line.
+#![tactic(auto)]
+
 ghost use Rattle.std.specs.Prelude.{◌≡◌, ◌≤◌, length, take};
 ghost use Rattle.replies.specs.Line.{call_of, parse};
 ghost use Rattle.replies.specs.Replies.{Replied};
@@ -63,7 +65,7 @@ fn replied(s: Store, pool: &mut [u8], line: &[u8], reply: &mut [u8]) -> Spoken
         return replies::malformed(s, reply);
     }
     let mut bytes = [0u8; 256];
-    let n = hex::decode(line, &mut bytes);
+    let n = hexadecimal::decode(line, &mut bytes);
     if 256 < n {
         return replies::malformed(s, reply);
     }
@@ -85,7 +87,7 @@ pub fn answer(s: Store, pool: &mut [u8], line: &[u8], out: &mut [u8; 512]) -> An
     let r = replied(s, pool, line, &mut reply);
     let n = r.length;
     let store = r.store;
-    hex::encode(&reply[..n], out);
+    hexadecimal::encode(&reply[..n], out);
     Answered {
         length: 2 * n,
         store,

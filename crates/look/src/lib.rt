@@ -1,4 +1,6 @@
 // Where a page of an object is: the slot of the range that covers it, and its frame.
+#![tactic(auto)]
+
 ghost use Rattle.std.specs.Prelude.{◌≡◌, ◌≤◌, ◌<◌};
 ghost use Rattle.ranges.specs.Range.{from, upto};
 ghost use Rattle.table.specs.Table.{ranged, Small};

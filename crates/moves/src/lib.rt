@@ -1,1 +1,2 @@
 // Bytes copied from one object to another, page after page, in a store and a pool inside a call. Definitions and laws only: see specs/.
+#![tactic(auto)]

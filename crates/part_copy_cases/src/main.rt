@@ -1,4 +1,6 @@
 // Runs copies of whole pages between partly touched ones, and of pages that the source does not cover. Answers are written by hand from document 01. One line a case.
+#![tactic(auto)]
+
 use access_samples::{five, free, high, leaves, lone, pair, read_is, small, stand, table, unused};
 use copy_samples::{copied, quiet};
 use places::Place;

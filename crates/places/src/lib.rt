@@ -1,4 +1,6 @@
 // The vector table: for each frame, the page vector and the index at which it stands.
+#![tactic(auto)]
+
 ghost use Rattle.std.specs.Prelude.{◌≡◌};
 ghost use Rattle.places.specs.Places.{stands_at};
 

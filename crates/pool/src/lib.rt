@@ -2,6 +2,8 @@
 //
 // A loop that stores byte after byte from one slice into another stays a loop when compiled: nothing tells LLVM that the slices lie apart. Bytes that
 // go by way of a local array become one call of memmove, and the array is gone. So copies go so, a page's bytes at a time.
+#![tactic(auto)]
+
 ghost use Rattle.std.specs.Prelude.{◌≡◌, ◌+◌, ◌*◌, ◌≤◌, ◌<◌, min, length, drop};
 ghost use Rattle.std.proofs.Math.Seq.{paste};
 ghost use Rattle.pool.specs.Bytes.{address, filled, frame_copied, frame_zeroed, shown, shown_from};

@@ -1,4 +1,6 @@
 // Runs each function of `pool` at the edges and compares what it leaves with values written by hand. One line a case.
+#![tactic(auto)]
+
 ghost use Rattle.std.specs.Prelude.{◌+◌, ◌≤◌, ◌<◌};
 
 use libc::STDOUT_FILENO;

@@ -1,4 +1,6 @@
 // WHY A CALL IS TURNED DOWN: for each call its number of the table, or 0.
+#![tactic(auto)]
+
 ghost use Rattle.std.specs.Prelude.{◌≡◌, false, not, ◌||◌, ◌+◌, ◌≤◌, ltb, get_or};
 ghost use Rattle.book.specs.Page.{touched};
 ghost use Rattle.book.specs.Book.{past_end};

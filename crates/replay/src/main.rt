@@ -4,6 +4,8 @@
 //     r START LENGTH OFFSET HOLDER s|p      each of its ranges: the backing is named by the slot of its first holder; shared or private
 //     p PAGE FRAME HASH                     each present page of the range, by frame
 // Numbers are hexadecimal. rust/harness prints the same of the original, and compares.
+#![tactic(auto)]
+
 ghost use Rattle.std.specs.Prelude.{◌≤◌, ◌<◌, length};
 
 use page::PageNumber;

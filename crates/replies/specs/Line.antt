@@ -2,7 +2,7 @@
 use Rattle.std.specs.Prelude.{Bool, List, [], ◌∷◌, ℕ, ◌+◌, ◌*◌, ◌/◌, ◌%◌, ltb, leb, eqb, length, get_or, drop}
 use Rattle.std.proofs.Math.Option.{Option, none, some}
 use Rattle.lists.specs.Test.{pick}
-use Rattle.hex.specs.Hex.{bytes_of, digits_of}
+use Rattle.hexadecimal.specs.Hex.{bytes_of, digits_of}
 use Rattle.book.specs.Need.{state_byte}
 use Rattle.book.specs.Book.{Book, Call, new_object, drop_object, write, read, add, look_up, copy, shadow, zero_out, counts, Answer, refused, done, added, state, bytes, numbers, step}
 

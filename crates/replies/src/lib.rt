@@ -1,4 +1,6 @@
 // THE CALLS OF THE LINE PROGRAM, each with the bytes of its line and of its answer. Any store and any pool; the line is as long as its code asks.
+#![tactic(auto)]
+
 ghost use Rattle.std.specs.Prelude.{◌≡◌, ◌+◌, ◌≤◌, ◌<◌, length, take, drop};
 ghost use Rattle.book.specs.Need.{state_byte};
 ghost use Rattle.look.specs.Found.{state_is};

@@ -1,4 +1,6 @@
 // THE TABLE OF RANGES ON A SHEET: the searches in it, and a range put over its span or pages cut out of it, in place.
+#![tactic(auto)]
+
 ghost use Rattle.std.specs.Prelude.{◌≡◌, [], ◌+◌, ◌-◌, ◌≤◌, ◌<◌, length};
 ghost use Rattle.ranges.specs.Range.{carve, from, upto};
 ghost use Rattle.ranges.specs.Search.{starts_before, ends_by};

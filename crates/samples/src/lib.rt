@@ -1,4 +1,6 @@
 // A store built by hand, the same with something else in one place, and the comparing of stores and answers, for the programs that run the calls.
+#![tactic(auto)]
+
 ghost use Rattle.std.specs.Prelude.{◌<◌};
 
 use calls::Reply;

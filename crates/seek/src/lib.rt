@@ -1,4 +1,6 @@
 // Where a page of an object is, on a sheet: the slot of the range that covers it, and its frame, by the chains of the frames.
+#![tactic(auto)]
+
 ghost use Rattle.std.specs.Prelude.{◌≡◌, true, ◌≤◌, ◌<◌, take};
 ghost use Rattle.ranges.specs.Range.{from, upto};
 ghost use Rattle.table.specs.declared.Found.TheVariants.{At};

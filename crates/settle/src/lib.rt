@@ -1,4 +1,6 @@
 // THE PAGE STEP ON A SHEET: a range put into the table for a page, what leaves with it, and a frame that gets the page.
+#![tactic(auto)]
+
 ghost use Rattle.std.specs.Prelude.{◌≡◌, ◌+◌, ◌≤◌, ◌<◌, ◌^◌, length, take};
 ghost use Rattle.ranges.specs.Range.{slot_at};
 ghost use Rattle.table.specs.Table.{ranges_of, Table};

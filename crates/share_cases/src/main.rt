@@ -1,4 +1,6 @@
 // Runs writes to pages that are shared or absent, and one page handed over. Answers are written by hand from document 01. One line a case.
+#![tactic(auto)]
+
 use access_samples::{
     adds, bare, five, free, fresh, halves, high, holed, leaves, lone, pair, puts, read_is, small,
     stand, table, unused,

@@ -1,4 +1,6 @@
 // Runs copies and shadow copies of whole pages, which are shared then, and pages handed on from object to object. Answers are written by hand from document 01. One line a case.
+#![tactic(auto)]
+
 use access_samples::{
     five, free, halves, holed, paged, pair, read_is, small, stand, table, unused,
 };

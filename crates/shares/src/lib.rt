@@ -1,5 +1,7 @@
 // WHOLE PAGES, shared with a source or left uncovered, in a store inside a call: only the table of ranges changes, and no byte.
 // One function; else definitions and laws only: see specs/.
+#![tactic(auto)]
+
 ghost use Rattle.std.specs.Prelude.{◌+◌, ◌-◌, ◌≤◌};
 ghost use Rattle.table.specs.Table.{Small};
 ghost use Rattle.shares.specs.Moved.{IsMoved};

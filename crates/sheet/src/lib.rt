@@ -7,6 +7,8 @@
 //     1536 .. 2560   where frame f stands: backing, and index below 32 bits
 //     2560 .. 2576   the words of the free map
 //     2576, 2577, 2578   frames, live names, ranges
+#![tactic(auto)]
+
 ghost use Rattle.std.specs.Prelude.{◌≡◌, ◌+◌, ◌<◌, length, set};
 ghost use Rattle.table.specs.Table.{number_of};
 ghost use Rattle.places.specs.Places.{place_at};

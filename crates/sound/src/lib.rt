@@ -1,5 +1,7 @@
 // THE TEST OF SOUNDNESS: whether a store is sound, for any value of its type. A store is put into a sheet first; the ranges and frames of a sound one are chained, for those
 // who work on it then.
+#![tactic(auto)]
+
 ghost use Rattle.std.specs.Prelude.{◌≡◌, true, ℕ, ◌≤◌, ◌<◌, drop, length, replicate, take};
 ghost use Rattle.store.specs.Sound.{sound?, Sized};
 ghost use Rattle.sound_places.specs.Alone.{SpotChains};

@@ -1,5 +1,7 @@
 // The tests of the frames' places and of the free map, one function for each test of store/specs/Sound.antt, on columns of numbers that are lent.
 // Any columns may come in; chains must be those of the columns.
+#![tactic(auto)]
+
 ghost use Rattle.std.specs.Prelude.{◌≡◌, true, false, not, ◌&&◌, List, ℕ, ◌+◌, ◌-◌, ◌*◌, ◌/◌, ◌%◌, ◌≤◌, ◌<◌, min, ltb, eqb, drop, get_or, length, replicate, take};
 ghost use Rattle.lists.specs.Test.{pick};
 ghost use Rattle.lists.specs.Every.{all_below};

@@ -1,4 +1,6 @@
 // The tests of the table of ranges that store/specs/Sound.antt has. Any table may come in: no sum here is too large.
+#![tactic(auto)]
+
 ghost use Rattle.std.specs.Prelude.{◌≡◌, true, ◌&&◌, ◌+◌, ◌≤◌, ◌<◌, leb, drop, length, replicate, take};
 ghost use Rattle.lists.specs.Every.{all_below};
 ghost use Rattle.chains.specs.Chains.{Chained, keyed};

@@ -1,4 +1,6 @@
 // Runs the calls on a good store spoiled in each single way, and on sound stores at the edges. One line a case.
+#![tactic(auto)]
+
 use samples::{
     blank, full, good_places, good_ranges, many, nothing, place, single, sound, spoiled, store,
     with_counts, with_place, with_range, with_ranges, with_word, words,

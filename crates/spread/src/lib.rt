@@ -1,4 +1,6 @@
 // WHOLE PAGES, shared with a source or left uncovered, on a sheet: only the table of ranges changes, and no byte.
+#![tactic(auto)]
+
 ghost use Rattle.std.specs.Prelude.{◌≡◌, List, ℕ, ◌+◌, ◌-◌, ◌*◌, ◌≤◌, ◌<◌, min, length};
 ghost use Rattle.ranges.specs.Range.{line};
 ghost use Rattle.ranges.specs.Search.{starts_before, ends_by};

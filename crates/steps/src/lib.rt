@@ -1,4 +1,6 @@
 // PAGE STEPS ON A SHEET: a page found, added or made writable, in a sheet and a pool that are lent inside a call.
+#![tactic(auto)]
+
 ghost use Rattle.std.specs.Prelude.{◌≡◌, true, ◌+◌, ◌-◌, ◌/◌, ◌%◌, ◌≤◌, ◌<◌, suc, length, drop, replicate, take};
 ghost use Rattle.ranges.specs.Range.{line, from, upto};
 ghost use Rattle.book.specs.Page.{over};

@@ -1,4 +1,6 @@
 // The store's type. Definitions and laws of it: see specs/.
+#![tactic(auto)]
+
 use places::Place;
 use table::PageRange;
 

@@ -1,4 +1,6 @@
 // Runs the calls that need no page bytes on a good store. Answers are written by hand from document 01. One line a case.
+#![tactic(auto)]
+
 use page::PageNumber;
 use samples::{
     absent, blank, gives, good, good_places, good_ranges, many, no_ranges, nothing, nowhere, place,

@@ -1,3 +1,5 @@
+#![tactic(auto)]
+
 ghost use Rattle.std.specs.Prelude.{◌≡◌, ◌++◌, ◌∷◌, [], ◌≤◌, ◌<◌};
 ghost use Rattle.ranges.specs.Range.{line, from, upto, skip, front, back, split_at};
 ghost use Rattle.ranges.specs.Table.{window};

@@ -1,4 +1,6 @@
 // Runs the functions of `page`, `table`, `rows` and `tidy` on edge values and compares with answers written by hand from document 01. One line a case.
+#![tactic(auto)]
+
 ghost use Rattle.std.specs.Prelude.{◌≡◌, ◌+◌, ◌≤◌, ◌<◌, length};
 ghost use Rattle.ranges.specs.Range.{skip};
 ghost use Rattle.table.specs.Table.{Table, Small, ranged};

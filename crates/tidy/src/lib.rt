@@ -1,4 +1,6 @@
 // TRIMMING ON A SHEET: places in no window go, with the sheet lent and each frame looked at once.
+#![tactic(auto)]
+
 ghost use Rattle.std.specs.Prelude.{◌≡◌, ◌&&◌, ◌||◌, List, ℕ, ◌≤◌, ◌<◌, eqb, leb, ltb, drop, length, take};
 ghost use Rattle.table.specs.Table.{ranges_of};
 ghost use Rattle.places.specs.Places.{nowhere, place_at};

@@ -1,4 +1,6 @@
 // TIME, for the programs that measure, and their lines.
+#![tactic(auto)]
+
 ghost use Rattle.std.specs.Prelude.{◌≤◌, ◌<◌};
 
 // Processor time in microseconds, and the time from one moment to a later one, at most an hour.

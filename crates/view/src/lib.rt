@@ -1,4 +1,6 @@
 // A page shown as that very part of the lent pool.
+#![tactic(auto)]
+
 ghost use Rattle.std.specs.Prelude.{◌≡◌, List, ℕ, length};
 ghost use Rattle.pool.specs.Bytes.{address};
 ghost use Rattle.view.specs.View.{frame_shown, part_of, begin_of, frame_number, Inside};

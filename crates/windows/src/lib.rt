@@ -1,4 +1,6 @@
 // THE SEARCH FOR A RANGE THAT HAS A SPOT IN ITS WINDOW, on columns of numbers that are lent. A spot is the place of a frame as a number: its backing, times 2^32, and its index.
+#![tactic(auto)]
+
 ghost use Rattle.std.specs.Prelude.{◌≡◌, ◌+◌, ◌-◌, ◌/◌, ◌%◌, ◌≤◌, ◌<◌, max, leb, length};
 ghost use Rattle.lists.specs.Test.{pick};
 ghost use Rattle.windows.specs.Windows.{window_in, Falls, Found, Hinted, Hit, Met, Wide};

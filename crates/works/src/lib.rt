@@ -1,6 +1,8 @@
 // WHAT IS MEASURED, turn after turn, by the public calls alone. Each function says how many turns went as they should. A turn that changes the store
 // starts from the same store as the turn before: what it leaves is dropped. Record 30 has no page; where it takes no part, its name comes and goes
 // (bit 30 of `live`), so that no turn is like the one before.
+#![tactic(auto)]
+
 ghost use Rattle.std.specs.Prelude.{◌+◌, ◌*◌, ◌≤◌, ◌<◌, length};
 
 use look::State;

@@ -1,4 +1,6 @@
 // BYTES WRITTEN TO MANY PAGES, from a slice or from another object within the pool, page after page, in a sheet and a pool that are lent inside a call.
+#![tactic(auto)]
+
 ghost use Rattle.std.specs.Prelude.{◌≡◌, ◌+◌, ◌-◌, ◌*◌, ◌/◌, ◌%◌, ◌≤◌, ◌<◌, length, drop, take};
 ghost use Rattle.std.proofs.Math.Seq.{paste};
 ghost use Rattle.ranges.specs.Range.{from, upto};

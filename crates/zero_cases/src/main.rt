@@ -1,4 +1,6 @@
 // Runs zeroing of bytes, of pages that are private, absent or shared. Answers are written by hand from document 01. One line a case.
+#![tactic(auto)]
+
 ghost use Rattle.std.specs.Prelude.{◌+◌, ◌≤◌};
 
 use access_samples::{

@@ -1,4 +1,6 @@
 // Runs zeroing where it is refused, and where the last frame or the last slot is taken. Answers are written by hand from document 01. One line a case.
+#![tactic(auto)]
+
 ghost use Rattle.std.specs.Prelude.{◌≤◌, length};
 
 use access_samples::{five, free, halves, high, lone, paged, pair, small, stand, table, unused};

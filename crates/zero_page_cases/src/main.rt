@@ -1,4 +1,6 @@
 // Runs zeroing of whole pages, alone and between partly touched ones. Answers are written by hand from document 01. One line a case.
+#![tactic(auto)]
+
 use access_samples::{
     adds, bare, five, free, halves, high, holed, lone, paged, pair, read_is, small, stand, table,
     unused,

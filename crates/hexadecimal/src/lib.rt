@@ -1,6 +1,8 @@
 // Hexadecimal: a line of digits to bytes, and bytes to a line of digits.
+#![tactic(auto)]
+
 ghost use Rattle.std.specs.Prelude.{◌≡◌, ◌+◌, ◌*◌, ◌≤◌, ◌<◌, length, take};
-ghost use Rattle.hex.specs.Hex.{value_of, digit_in, bytes_of, bytes_in, digit_of, digits_of};
+ghost use Rattle.hexadecimal.specs.Hex.{value_of, digit_in, bytes_of, bytes_in, digit_of, digits_of};
 
 // No digit has this value.
 const NO_DIGIT: u8 = 16;

@@ -1,14 +1,14 @@
--- `hex::decode`: the bytes found, before those of the digits left, are the line's; a turn finds one more (`decode_turn`).
+-- `hexadecimal::decode`: the bytes found, before those of the digits left, are the line's; a turn finds one more (`decode_turn`).
 use mathlib.Core.Path.{◌≡◌}
 use Prim.Native.Nat.{◌+◌, ◌≤◌, ◌-◌, ◌*◌}
 use native.Mathlib.Omega.{arith}
 use lib.ListN.{length, take, drop, length-set, get_or}
 use borrow.Author.Tests.{le-leb}
 use borrow.Author.Rules.{rules}
-use Rattle.hex.specs.Loops.{behind, behind_none, digit_found, digit_missing, decode_turn, decode_high, decode_low, decode_odd, decode_end}
-use Rattle.hex.specs.Hex.{bytes_of}
-use Rattle.hex.proofs.decode.Statement.{statement}
-use Rattle.hex.proofs.decode.Tie as tie
+use Rattle.hexadecimal.specs.Loops.{behind, behind_none, digit_found, digit_missing, decode_turn, decode_high, decode_low, decode_odd, decode_end}
+use Rattle.hexadecimal.specs.Hex.{bytes_of}
+use Rattle.hexadecimal.proofs.decode.Statement.{statement}
+use Rattle.hexadecimal.proofs.decode.Tie as tie
 
 abbrev invariant-loop : tie.invariant-loop
 invariant-loop line bytes₀ n i₀ bytes i = (2 * i ≤ length line) × (length bytes ≡ 256) × (behind (take i bytes) (bytes_of (drop (2 * i) line)) ≡ bytes_of line)

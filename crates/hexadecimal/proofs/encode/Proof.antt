@@ -1,14 +1,14 @@
--- `hex::encode`: the first digits are those of the first i bytes; a turn stores two more (`encode_turn`).
+-- `hexadecimal::encode`: the first digits are those of the first i bytes; a turn stores two more (`encode_turn`).
 use mathlib.Core.Path.{◌≡◌, refl, ap, subst, ◌∙◌}
 use Prim.Native.Nat.{◌≤◌, ◌-◌, ◌*◌}
 use native.Mathlib.Omega.{arith}
 use lib.Seq.{take-length}
 use lib.ListN.{length, take, length-set}
 use borrow.Author.Rules.{rules}
-use Rattle.hex.specs.Loops.{encode_turn}
-use Rattle.hex.specs.Hex.{digits_of}
-use Rattle.hex.proofs.encode.Statement.{statement}
-use Rattle.hex.proofs.encode.Tie as tie
+use Rattle.hexadecimal.specs.Loops.{encode_turn}
+use Rattle.hexadecimal.specs.Hex.{digits_of}
+use Rattle.hexadecimal.proofs.encode.Statement.{statement}
+use Rattle.hexadecimal.proofs.encode.Tie as tie
 
 abbrev invariant-loop : tie.invariant-loop
 invariant-loop bytes digits₀ n i₀ digits i = (i ≤ length bytes) × (length digits ≡ length digits₀) × (take (2 * i) digits ≡ digits_of (take i bytes))

@@ -1,11 +1,11 @@
--- `hex::value`: one law for each kind of digit, and one for another character.
+-- `hexadecimal::value`: one law for each kind of digit, and one for another character.
 use native.Mathlib.Omega.{arith}
 use lib.Dec.{leb}
 use borrow.Author.Tests.{leb-true}
-use Rattle.hex.specs.Loops.{value_number, value_capital, value_small, value_other}
+use Rattle.hexadecimal.specs.Loops.{value_number, value_capital, value_small, value_other}
 use Rattle.lists.specs.Every.{both_true}
-use Rattle.hex.proofs.value.Statement.{statement}
-use Rattle.hex.proofs.value.Tie as tie
+use Rattle.hexadecimal.proofs.value.Statement.{statement}
+use Rattle.hexadecimal.proofs.value.Tie as tie
 
 sub-result : tie.Need-overflow-sub-result
 sub-result c = omega (arith, leb-true 48 c.before.args.c (both_true (leb 48 c.before.args.c) _ c.if1.true).0)

@@ -1,8 +1,8 @@
--- `hex::digit`: by the test.
+-- `hexadecimal::digit`: by the test.
 use borrow.Author.Tests.{lt-ltb, le-ltb}
 use borrow.Author.Rules.{rules}
-use Rattle.hex.proofs.digit.Statement.{statement}
-use Rattle.hex.proofs.digit.Tie as tie
+use Rattle.hexadecimal.proofs.digit.Statement.{statement}
+use Rattle.hexadecimal.proofs.digit.Tie as tie
 
 add-result : tie.Need-overflow-add-result
 add-result c = search rules

@@ -5,7 +5,7 @@ use Rattle.std.proofs.Common.{ap₂, sym, ◌∙◌, append_assoc, append-nil, a
 use Rattle.std.proofs.Math.Option.{Option, none, some}
 use borrow.Author.Tests.{leb-true, lt-ltb, le-ltb}
 use Rattle.lists.specs.Every.{both_true}
-use Rattle.hex.specs.Hex.{value_of, digit_in, byte_before, bytes_of, digit_of, digits_of}
+use Rattle.hexadecimal.specs.Hex.{value_of, digit_in, byte_before, bytes_of, digit_of, digits_of}
 
 -- ---- a digit's value
 
