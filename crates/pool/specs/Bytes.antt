@@ -38,4 +38,4 @@ shown_from size d present f = pick (shows size d present f) (f * size) 0
 
 -- the address of byte i of a lent slice: a part of the slice that begins there is "that very part", and no copy
 abbrev pub address : Bor (List ℕ) → ℕ → ℕ × ℕ
-address p i = (p.ptr.0, p.ptr.1 + i)
+address p i = (p.ref_ptr.0, p.ref_ptr.1 + i)
