@@ -15,7 +15,7 @@ use page::PageNumber;
 use store::Store;
 
 // The frame of an added page; 0 where the call is refused.
-#[derive(Drop)]
+#[derive(Clone, Copy)]
 pub struct Added {
     pub store: Store,
     pub frame: usize,

@@ -21,7 +21,7 @@ use page::PageNumber;
 use store::Store;
 
 // A call's number and the store handed back.
-#[derive(Drop)]
+#[derive(Clone, Copy)]
 pub struct Reply {
     pub store: Store,
     pub number: u8,
@@ -61,7 +61,7 @@ pub fn new_object(s: Store, object: u32) -> Reply
 }
 
 // A page's state; absent where the call is refused.
-#[derive(Drop)]
+#[derive(Clone, Copy)]
 pub struct Looked {
     pub number: u8,
     pub state: State,
@@ -93,7 +93,7 @@ pub fn look_up(s: Store, object: u32, page: PageNumber) -> Looked
 }
 
 // Frames in use and ranges; 0 where the call is refused.
-#[derive(Drop)]
+#[derive(Clone, Copy)]
 pub struct Numbers {
     pub number: u8,
     pub frames: u32,

@@ -43,7 +43,7 @@ fn print(out: &mut [u8; GATHERED], filled: usize, digits: &[u8; 512], n: usize) 
 }
 
 // How many bytes are to be written after an answer, and the store.
-#[derive(Drop)]
+#[derive(Clone, Copy)]
 struct Spoken {
     filled: usize,
     store: Store,
@@ -96,7 +96,7 @@ fn finish(
 }
 
 // How far a part of the input is done: the next byte, how many bytes of the line under way are held, how many bytes are to be written.
-#[derive(Drop)]
+#[derive(Clone, Copy)]
 struct Progress {
     at: usize,
     held: usize,
@@ -155,7 +155,7 @@ fn write_out(out: &[u8], n: usize) -> bool
 }
 
 // What a chunk leaves: whether all was written, how many bytes are held, the store.
-#[derive(Drop)]
+#[derive(Clone, Copy)]
 struct Rest {
     written: bool,
     held: usize,

@@ -12,7 +12,7 @@ ghost use Rattle.enter.specs.Enter.{verdict};
 use page::PageNumber;
 
 // A copy: n bytes of the object `source`, from the offset `from` on, and where they go, to `object` from the offset `to` on.
-#[derive(Drop)]
+#[derive(Clone, Copy)]
 pub struct Passage {
     pub source: u32,
     pub from: usize,

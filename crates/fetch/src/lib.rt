@@ -82,7 +82,7 @@ pub fn read_pages(
 }
 
 // Whether a page was written, and a slot to begin at when the next page is looked for.
-#[derive(Drop)]
+#[derive(Clone, Copy)]
 pub struct Over {
     pub written: bool,
     pub slot: usize,
@@ -212,14 +212,14 @@ fn move_in(
 }
 
 // Slots to begin at when the next page, and the next bytes of its source, are looked for.
-#[derive(Drop)]
+#[derive(Clone, Copy)]
 struct Slots {
     to: usize,
     from: usize,
 }
 
 // Whether a page was copied over, and the slots for the next one.
-#[derive(Drop)]
+#[derive(Clone, Copy)]
 struct Copied {
     written: bool,
     slots: Slots,

@@ -6,7 +6,7 @@ ghost use Rattle.std.specs.Int.Count.{count_leading_zeros};
 ghost use Rattle.frames.specs.Free.{Top};
 
 // A frame by its number, or none.
-#[derive(Drop)]
+#[derive(Clone, Copy)]
 pub enum Frame {
     At(usize),
     Nothing,

@@ -73,7 +73,7 @@ fn replied(s: Store, pool: &mut [u8], line: &[u8], reply: &mut [u8]) -> Spoken
 }
 
 // How many digits an answer has, and the store left.
-#[derive(Drop)]
+#[derive(Clone, Copy)]
 pub struct Answered {
     pub length: usize,
     pub store: Store,

@@ -9,20 +9,20 @@ ghost use Rattle.look.specs.Look.{index_in};
 use table::PageRange;
 
 // A present page: the number of its backing and its frame.
-#[derive(Drop)]
+#[derive(Clone, Copy)]
 pub struct Located {
     pub backing: u32,
     pub frame: usize,
 }
 
-#[derive(Drop)]
+#[derive(Clone, Copy)]
 pub enum PageAt {
     Absent,
     Present(Located),
 }
 
 // "absent, private, shared"
-#[derive(Drop)]
+#[derive(Clone, Copy)]
 pub enum State {
     Absent,
     Private,

@@ -3,11 +3,11 @@
 ghost use Rattle.std.specs.Prelude.{◌≡◌, ◌+◌, ◌-◌, ◌*◌, ◌/◌, ◌%◌, ◌≤◌, ◌<◌, max, min};
 
 // A page of an object, counted from 0: "a number of its own, never mixed with a byte offset or a frame number".
-#[derive(Drop)]
+#[derive(Clone, Copy)]
 pub struct PageNumber(pub usize);
 
 // A span of bytes: those before its first page edge, its whole pages, those after the last edge.
-#[derive(Drop)]
+#[derive(Clone, Copy)]
 pub struct Span {
     pub head: usize,
     pub whole: usize,

@@ -4,7 +4,7 @@
 use table::PageRange;
 
 // The range that is put into the table for a page, and the page's index in its backing.
-#[derive(Drop)]
+#[derive(Clone, Copy)]
 pub struct Spot {
     pub range: PageRange,
     pub index: u32,

@@ -5,7 +5,7 @@ ghost use Rattle.std.specs.Prelude.{◌≡◌};
 ghost use Rattle.places.specs.Places.{stands_at};
 
 // Where a frame stands in a page vector; 0, 0 when free.
-#[derive(Drop)]
+#[derive(Clone, Copy)]
 pub struct Place {
     pub backing: u32,
     pub index: u32,

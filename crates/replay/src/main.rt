@@ -305,7 +305,7 @@ fn asked(line: &[u8]) -> usize
     n
 }
 
-#[derive(Drop)]
+#[derive(Clone, Copy)]
 struct Printed {
     store: Store,
     at: usize,
@@ -367,7 +367,7 @@ fn line_done(s: Store, pool: &mut [u8], line: &[u8], out: &mut [u8], at: usize) 
 }
 
 // ---- the standard input, in chunks; a line may reach over the end of one
-#[derive(Drop)]
+#[derive(Clone, Copy)]
 struct Reading {
     store: Store,
     at: usize,

@@ -35,7 +35,7 @@ fn four(x: &[u8], k: usize) -> usize
 // ---- an answer's bytes
 
 // How many bytes an answer has, and the store left.
-#[derive(Drop)]
+#[derive(Clone, Copy)]
 pub struct Spoken {
     pub length: usize,
     pub store: Store,

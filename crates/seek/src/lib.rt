@@ -83,7 +83,7 @@ fn slot_near(sheet: &[u64; 2579], g: usize, hint: usize) -> Found
 }
 
 // Where a page is, and a slot to begin at when the next page is looked for.
-#[derive(Drop)]
+#[derive(Clone, Copy)]
 pub struct Near {
     pub slot: usize,
     pub page: PageAt,
@@ -139,7 +139,7 @@ fn sharing(sheet: &[u64; 2579], holders: &[u16; 2048], backing: u32) -> State
 }
 
 // The state of a page, and a slot to begin at when the next page is looked for.
-#[derive(Drop)]
+#[derive(Clone, Copy)]
 pub struct NearState {
     pub slot: usize,
     pub state: State,
@@ -196,7 +196,7 @@ fn private_at(sheet: &[u64; 2579], holders: &[u16; 2048], page: PageAt) -> Frame
 }
 
 // A frame, or none, and a slot to begin at when the next page is looked for.
-#[derive(Drop)]
+#[derive(Clone, Copy)]
 pub struct NearFrame {
     pub slot: usize,
     pub frame: Frame,

@@ -37,7 +37,7 @@ pub fn frame_at(sheet: &[u64; 2579], backing: u32, index: u32) -> Frame
 }
 
 // The place of a page in the page vectors before a step, present or not; none where no range covers it.
-#[derive(Drop)]
+#[derive(Clone, Copy)]
 pub enum OldPlace {
     Nowhere,
     Was(Place),

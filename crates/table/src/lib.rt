@@ -9,7 +9,7 @@ ghost use Rattle.table.specs.Table.{number_of, ranged, range_of, zero_range, Sma
 use page::PageNumber;
 
 // What keeps the pages of a range, with the backing's number. "Between two calls `Nothing` stands only in unused slots."
-#[derive(Drop)]
+#[derive(Clone, Copy)]
 pub enum BackingPages {
     Nothing,
     Single(u32),
@@ -17,7 +17,7 @@ pub enum BackingPages {
 }
 
 // Pages of an object from `start` on, kept in a backing from index `offset` on.
-#[derive(Drop)]
+#[derive(Clone, Copy)]
 pub struct PageRange {
     pub object: u32,
     pub start: PageNumber,
@@ -110,21 +110,21 @@ pub fn shorten(r: &mut PageRange, k: u32)
 }
 
 // A part of a range, or none.
-#[derive(Drop)]
+#[derive(Clone, Copy)]
 pub enum Piece {
     Empty,
     Part(PageRange),
 }
 
 // What is left of a range where the pages from a up to e of the line are cut out.
-#[derive(Drop)]
+#[derive(Clone, Copy)]
 pub struct Pieces {
     pub before: Piece,
     pub after: Piece,
 }
 
 // A range cut around one page.
-#[derive(Drop)]
+#[derive(Clone, Copy)]
 pub struct Around {
     pub before: Piece,
     pub page: PageRange,
@@ -196,14 +196,14 @@ pub fn split_at(r: PageRange, g: usize) -> Around
 }
 
 // The place of a range in a table, or none.
-#[derive(Drop)]
+#[derive(Clone, Copy)]
 pub enum Found {
     At(usize),
     Missing,
 }
 
 // The ranges of a table that begin before a page: how many, and the last of them.
-#[derive(Drop)]
+#[derive(Clone, Copy)]
 pub struct Begun {
     pub count: usize,
     pub last: PageRange,

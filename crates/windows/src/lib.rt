@@ -15,7 +15,7 @@ fn in_window(tag: u64, span: u64, x: u64) -> bool
 }
 
 // What a search came to: a link, or 0, and how many steps are left. Where none is left it was given up.
-#[derive(Drop)]
+#[derive(Clone, Copy)]
 pub struct Walked {
     pub link: usize,
     pub steps: usize,
