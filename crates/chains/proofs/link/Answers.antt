@@ -1,8 +1,7 @@
 use mathlib.Core.Path.{refl}
 use mathlib.Core.Path.{◌≡◌}
-use Prim.Native.Nat.{◌-◌, ◌≤◌}
-use lib.ListN.{drop, length, length-set, take}
-use Rattle.chains.specs.Chains.{Chained, keyed, linked_next, linked_none}
+use lib.ListN.{length-set}
+use Rattle.chains.specs.Chains.{keyed, linked_next, linked_none}
 use borrow.Author.Rules.{rules}
 use native.Mathlib.Omega.{arith}
 use Rattle.chains.proofs.link.Goals as goal

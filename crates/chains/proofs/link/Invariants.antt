@@ -1,11 +1,8 @@
 -- `chains::link` meets its contract. The loop's invariant: the chains of the entries below `i` are made. The measure is the number of entries left.
-use mathlib.Core.Path.{refl}
 use mathlib.Core.Path.{◌≡◌}
 use Prim.Native.Nat.{◌-◌, ◌≤◌}
-use lib.ListN.{drop, length, length-set, take}
-use Rattle.chains.specs.Chains.{Chained, keyed, linked_next, linked_none}
-use borrow.Author.Rules.{rules}
-use native.Mathlib.Omega.{arith}
+use lib.ListN.{drop, length, take}
+use Rattle.chains.specs.Chains.{Chained, keyed}
 use Rattle.chains.proofs.link.Given as goal
 
 abbrev pub invariant-loop-i : goal.invariant-loop-i
