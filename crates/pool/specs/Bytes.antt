@@ -1,6 +1,5 @@
 -- The bytes of the lent pool, by frames. The page size is a parameter of every definition; the contracts have 4,096. Sentences quoted are document 01's.
 use Rattle.std.specs.Prelude.{Bool, ◌&&◌, List, [], ℕ, ◌+◌, ◌*◌, leb, length, take, drop, replicate}
-use Rattle.std.specs.Borrow.{Bor}
 use Rattle.std.proofs.Math.Seq.{paste}
 use Rattle.lists.specs.Test.{pick}
 
@@ -36,6 +35,6 @@ shown size d present f = pick (shows size d present f) (frame_at size d f) []
 unfoldable pub shown_from : ℕ → List ℕ → Bool → ℕ → ℕ
 shown_from size d present f = pick (shows size d present f) (f * size) 0
 
--- the address of byte i of a lent slice: a part of the slice that begins there is "that very part", and no copy
-abbrev pub address : Bor (List ℕ) → ℕ → ℕ × ℕ
-address p i = (p.ref_ptr.0, p.ref_ptr.1 + i)
+-- the address of byte i of a lent slice that begins at p: a part of the slice that begins there is "that very part", and no copy
+abbrev pub address : ℕ × ℕ → ℕ → ℕ × ℕ
+address p i = (p.0, p.1 + i)

@@ -3,7 +3,6 @@ use Rattle.std.specs.Prelude.{◌≡◌, Bool, true, false, List, [], ℕ, ◌+�
 use Rattle.std.proofs.Math.Path.{ap, sym}
 use Rattle.std.proofs.Common.{◌∙◌, add-zero, mul-le-mul_right, suc-mul, drop-drop, take-take}
 use native.Mathlib.Omega.{arith}
-use Rattle.std.specs.Borrow.{Bor}
 use Rattle.std.proofs.Math.ListN.{length-drop}
 use Rattle.std.proofs.lemmas.List.{length-replicate}
 use Rattle.std.proofs.Math.Seq.{paste, length-take-le}
@@ -133,5 +132,5 @@ module _ (size : ℕ) where
     shown_code e q i h = let z : e - f * size ≡ size = omega arith in rw z (shown_frame i h).0
 
 -- a part that begins i bytes into a slice
-pub begins_at : (r : Bor (List ℕ)) (i j : ℕ) → i ≡ j → (r.ref_ptr.0, i + r.ref_ptr.1) ≡ address r j
-begins_at r i j e = let z : i + r.ref_ptr.1 ≡ r.ref_ptr.1 + j = omega arith in ap (λ k. (r.ref_ptr.0, k)) z
+pub begins_at : (p : ℕ × ℕ) (i j : ℕ) → i ≡ j → (p.0, i + p.1) ≡ address p j
+begins_at p i j e = let z : i + p.1 ≡ p.1 + j = omega arith in ap (λ k. (p.0, k)) z

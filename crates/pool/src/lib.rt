@@ -132,7 +132,7 @@ pub fn zero_frame(pool: &mut [u8], f: usize)
 // Frame f as that part of the pool; an empty part where it is not present or does not lie in the pool.
 pub fn show(pool: &mut [u8], present: bool, f: usize) -> &mut [u8]
     ensures result_value { result.now ≡ shown 4096 pool.old present f }
-    ensures ref_ptr_value { result.ref_ptr ≡ address pool.entry (shown_from 4096 pool.old present f) }
+    ensures ref_ptr_value { result.ref_ptr ≡ address pool.entry.ref_ptr (shown_from 4096 pool.old present f) }
 {
     if !present {
         return &mut pool[0..0];
@@ -148,7 +148,7 @@ pub fn show(pool: &mut [u8], present: bool, f: usize) -> &mut [u8]
 // The same of a pool that is only read.
 pub fn show_ref(pool: &[u8], present: bool, f: usize) -> &[u8]
     ensures result_value { result.now ≡ shown 4096 pool.now present f }
-    ensures ref_ptr_value { result.ref_ptr ≡ address pool.entry (shown_from 4096 pool.now present f) }
+    ensures ref_ptr_value { result.ref_ptr ≡ address pool.entry.ref_ptr (shown_from 4096 pool.now present f) }
 {
     if !present {
         return &pool[0..0];

@@ -36,7 +36,7 @@ fn frame_shown(s: Store, pool: usize, object: u32, page: PageNumber) -> Frame
 // the whole answer." The part is lent to be read: a page may be shared.
 pub fn show(s: Store, pool: &[u8], object: u32, page: PageNumber) -> &[u8]
     ensures result_value { result.now ≡ part_of pool.now (frame_shown s pool.now object page.0) }
-    ensures ref_ptr_value { result.ref_ptr ≡ address pool.entry (begin_of (frame_shown s pool.now object page.0)) }
+    ensures ref_ptr_value { result.ref_ptr ≡ address pool.entry.ref_ptr (begin_of (frame_shown s pool.now object page.0)) }
 {
     match frame_shown(s, pool.len(), object, page) {
         Frame::Nothing => pool::show_ref(pool, false, 0),

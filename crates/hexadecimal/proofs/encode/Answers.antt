@@ -12,19 +12,15 @@ pub loop-i-init : goal.loop-i-init
 unfolding digits_of
 loop-i-init c = (omega arith, refl, refl)
 
-pub digit-requires : goal.digit-requires
-digit-requires c = omega (arith, c.shared_slice_known-in-loop-i-1.given c.loop-i.i)
-
 pub bounds-digits-i-in-loop-i : goal.bounds-digits-i-in-loop-i
 bounds-digits-i-in-loop-i c = simp length-set (omega (arith, c.loop-i.invariant.1))
 
 pub loop-i-preserved : goal.loop-i-preserved
 loop-i-preserved c =
-    let l = c in
-    let a = l.before.before.before.args in (
+    let a = c.args in (
       search rules,
-      simp length-set l.loop-i.invariant.1,
-      encode_turn a.bytes.now l.loop-i.digits l.loop-i.i _ _ (omega arith) (omega arith) c.digit.ensures c.digit-in-loop-i.ensures l.loop-i.invariant.2,
+      simp length-set c.loop-i.invariant.1,
+      encode_turn a.bytes.now c.loop-i.digits c.loop-i.i _ _ (omega arith) (omega arith) c.digit.ensures c.digit-in-loop-i.ensures c.loop-i.invariant.2,
     )
 
 pub returns : goal.returns

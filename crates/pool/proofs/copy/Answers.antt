@@ -1,7 +1,6 @@
-use mathlib.Core.Path.{◌≡◌, refl}
-use Prim.Native.Nat.{◌≤◌, ◌-◌}
-use lib.ListN.{length, drop}
-use lib.Seq.{paste, paste-zero}
+use mathlib.Core.Path.{refl}
+use lib.ListN.{drop}
+use lib.Seq.{paste-zero}
 use Rattle.lists.specs.Part.{chunk, paste_done}
 use borrow.Author.Rules.{rules}
 use native.Mathlib.Omega.{arith}
@@ -12,12 +11,11 @@ loop-done-init c = let a = c.args in (search rules, refl, paste-zero a.d.now a.a
 
 pub loop-done-preserved : goal.loop-done-preserved
 loop-done-preserved c =
-    let l = c in
-    let a = l.before.before.before.args in
+    let a = c.args in
     let k = c.next-part.result in (
       search rules,
       search rules,
-      chunk a.d.now a.at a.s.now a.from l.loop-done.done k _ _ (omega arith) (omega arith) l.loop-done.invariant.2 c.store_page.ensures,
+      chunk a.d.now a.at a.s.now a.from c.loop-done.done k _ _ (omega arith) (omega arith) c.loop-done.invariant.2 c.store_page.ensures,
     )
 
 pub shape_of-d : goal.shape_of-d

@@ -1,11 +1,8 @@
 -- `pool::copy`: the bytes done so far are pasted, and a turn pastes the next part behind them (`chunk`).
-use mathlib.Core.Path.{◌≡◌, refl}
+use mathlib.Core.Path.{◌≡◌}
 use Prim.Native.Nat.{◌≤◌, ◌-◌}
 use lib.ListN.{length, drop}
-use lib.Seq.{paste, paste-zero}
-use Rattle.lists.specs.Part.{chunk, paste_done}
-use borrow.Author.Rules.{rules}
-use native.Mathlib.Omega.{arith}
+use lib.Seq.{paste}
 use Rattle.pool.proofs.copy.Given as goal
 
 abbrev pub invariant-loop-done : goal.invariant-loop-done

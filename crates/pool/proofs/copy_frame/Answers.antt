@@ -1,7 +1,6 @@
 -- `pool::copy_frame`: a page's bytes moved from frame to frame.
 use mathlib.Core.Path.{◌∙◌}
 use Rattle.pool.specs.Frames.{copied_code}
-use borrow.Author.Rules.{rules}
 use Rattle.pool.proofs.copy_frame.Goals as goal
 
 pub returns : goal.returns

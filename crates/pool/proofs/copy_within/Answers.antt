@@ -1,7 +1,6 @@
-use mathlib.Core.Path.{◌≡◌, refl}
-use Prim.Native.Nat.{◌≤◌, ◌-◌}
-use lib.ListN.{length, drop}
-use lib.Seq.{paste, paste-zero}
+use mathlib.Core.Path.{refl}
+use lib.ListN.{drop}
+use lib.Seq.{paste-zero}
 use Rattle.lists.specs.Part.{chunk_within, paste_done}
 use borrow.Author.Rules.{rules}
 use native.Mathlib.Omega.{arith}
@@ -12,12 +11,11 @@ loop-done-init c = let a = c.args in (search rules, refl, paste-zero a.pool.now 
 
 pub loop-done-preserved : goal.loop-done-preserved
 loop-done-preserved c =
-    let l = c in
-    let a = l.before.before.args in
+    let a = c.args in
     let k = c.next-part.result in (
       search rules,
       search rules,
-      chunk_within a.pool.now a.at a.from l.loop-done.done k a.n _ _ l.before.before.requires.1 (omega arith) (omega arith) (omega arith) l.loop-done.invariant.2 c.move_within.ensures,
+      chunk_within a.pool.now a.at a.from c.loop-done.done k a.n _ _ c.requires.n_bound (omega arith) (omega arith) (omega arith) c.loop-done.invariant.2 c.move_within.ensures,
     )
 
 pub shape_of-pool : goal.shape_of-pool

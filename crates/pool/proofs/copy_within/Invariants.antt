@@ -1,11 +1,8 @@
 -- `pool::copy_within`: as `copy`; what a turn reads lies outside what is written (`chunk_within`).
-use mathlib.Core.Path.{◌≡◌, refl}
+use mathlib.Core.Path.{◌≡◌}
 use Prim.Native.Nat.{◌≤◌, ◌-◌}
 use lib.ListN.{length, drop}
-use lib.Seq.{paste, paste-zero}
-use Rattle.lists.specs.Part.{chunk_within, paste_done}
-use borrow.Author.Rules.{rules}
-use native.Mathlib.Omega.{arith}
+use lib.Seq.{paste}
 use Rattle.pool.proofs.copy_within.Given as goal
 
 abbrev pub invariant-loop-done : goal.invariant-loop-done

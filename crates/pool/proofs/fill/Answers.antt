@@ -1,7 +1,6 @@
-use mathlib.Core.Path.{◌≡◌, refl, sym}
-use Prim.Native.Nat.{◌≤◌, ◌-◌}
-use lib.ListN.{length, replicate, length-set, length-replicate, get_or-replicate}
-use lib.Seq.{paste, paste-zero}
+use mathlib.Core.Path.{refl, sym}
+use lib.ListN.{replicate, length-set, length-replicate, get_or-replicate}
+use lib.Seq.{paste-zero}
 use Rattle.lists.specs.Paste.{turn}
 use Rattle.lists.specs.Part.{paste_done}
 use Rattle.pool.specs.Bytes.{filled}

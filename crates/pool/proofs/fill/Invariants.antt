@@ -1,13 +1,8 @@
 -- `pool::fill`: after i turns the first i of the n bytes are b, pasted over the pool.
-use mathlib.Core.Path.{◌≡◌, refl, sym}
+use mathlib.Core.Path.{◌≡◌}
 use Prim.Native.Nat.{◌≤◌, ◌-◌}
-use lib.ListN.{length, replicate, length-set, length-replicate, get_or-replicate}
-use lib.Seq.{paste, paste-zero}
-use Rattle.lists.specs.Paste.{turn}
-use Rattle.lists.specs.Part.{paste_done}
-use Rattle.pool.specs.Bytes.{filled}
-use borrow.Author.Rules.{rules}
-use native.Mathlib.Omega.{arith}
+use lib.ListN.{length, replicate}
+use lib.Seq.{paste}
 use Rattle.pool.proofs.fill.Given as goal
 
 abbrev pub invariant-loop-i : goal.invariant-loop-i

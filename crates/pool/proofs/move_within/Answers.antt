@@ -10,6 +10,5 @@ returns-then-n-eq0 c = let a = c.args in paste_none a.pool.now a.at (drop a.from
 
 pub returns : goal.returns
 returns c =
-    let s = c in
-    let a = s.before.before.before.before.before.args in
-    through a.pool.now _ a.at (drop a.from a.pool.now) _ _ a.n (simp length-drop (omega arith)) s.store.ensures c.store-2.ensures
+    let a = c.args in
+    through a.pool.now _ a.at (drop a.from a.pool.now) _ _ a.n (simp length-drop (omega arith)) c.store.ensures c.store-2.ensures

@@ -1,7 +1,6 @@
-use mathlib.Core.Path.{◌≡◌, refl, sym}
-use Prim.Native.Nat.{◌≤◌, ◌-◌}
-use lib.ListN.{length, drop, length-drop, length-set}
-use lib.Seq.{paste, paste-zero, get_or-drop}
+use mathlib.Core.Path.{refl, sym}
+use lib.ListN.{drop, length-drop, length-set}
+use lib.Seq.{paste-zero, get_or-drop}
 use Rattle.lists.specs.Paste.{turn}
 use Rattle.lists.specs.Part.{paste_done}
 use borrow.Author.Rules.{rules}

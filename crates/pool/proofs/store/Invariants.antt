@@ -1,12 +1,8 @@
 -- `pool::store`: after k turns the first k bytes are pasted.
-use mathlib.Core.Path.{◌≡◌, refl, sym}
+use mathlib.Core.Path.{◌≡◌}
 use Prim.Native.Nat.{◌≤◌, ◌-◌}
-use lib.ListN.{length, drop, length-drop, length-set}
-use lib.Seq.{paste, paste-zero, get_or-drop}
-use Rattle.lists.specs.Paste.{turn}
-use Rattle.lists.specs.Part.{paste_done}
-use borrow.Author.Rules.{rules}
-use native.Mathlib.Omega.{arith}
+use lib.ListN.{length, drop}
+use lib.Seq.{paste}
 use Rattle.pool.proofs.store.Given as goal
 
 abbrev pub invariant-loop-k : goal.invariant-loop-k

@@ -1,6 +1,5 @@
 -- `pool::zero_frame`: a page's bytes filled.
 use Rattle.pool.specs.Bytes.{frame_zeroed}
-use borrow.Author.Rules.{rules}
 use Rattle.pool.proofs.zero_frame.Goals as goal
 
 pub returns : goal.returns

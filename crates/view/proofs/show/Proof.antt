@@ -32,7 +32,7 @@ returns c =
     let e : none ≡ frame_shown a.s a.pool.now a.object a.page.0 = ap frame_number (sym c.before.enum_told.given.1) ∙ f.0 a.pool.now refl in
     let h = c.show-ref.ensures in
     let z = shown_absent 4096 a.pool.now false 0 refl in
-    rw (← e) (h.0 ∙ sym z.0, h.1 ∙ ap (λ k. address a.pool k) (sym z.1))
+    rw (← e) (h.0 ∙ sym z.0, h.1 ∙ ap (λ k. address a.pool.ref_ptr k) (sym z.1))
 
 returns-2 : tie.Need-returns-2
 returns-2 c =
@@ -43,7 +43,7 @@ returns-2 c =
     let i : g * 4096 + 4096 ≤ length a.pool.now = subst (λ q. Inside (length a.pool.now) q) c.before.before.f.given.1 f.1 in
     let h = c.show-ref2.ensures in
     let z = shown_frame 4096 a.pool.now true g refl i in
-    rw (← e) (h.0 ∙ sym z.0, h.1 ∙ ap (λ k. address a.pool k) (sym z.1))
+    rw (← e) (h.0 ∙ sym z.0, h.1 ∙ ap (λ k. address a.pool.ref_ptr k) (sym z.1))
 
 pub show-spec : {M : Type 1} → statement M
 show-spec =
