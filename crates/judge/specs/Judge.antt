@@ -12,5 +12,5 @@ module _ (s : Store) (S : Sound s) where
   row_one = ap not (says_sound s S)
 
 -- 3, from a test q of the live names that were read
-pub no_name : (s : Store) (o l : ℕ) (q b : Bool) → l ≡ s.live → q ≡ (ltb 31 o || not (get_or (live_of l) o false)) → q ≡ b → no_name s o ≡ b
-no_name s o l q b e f t = sym (ap (λ (k : ℕ). ltb 31 o || not (get_or (live_of k) o false)) e) ∙ sym f ∙ t
+pub no_name_lem : (s : Store) (o l : ℕ) (q b : Bool) → l ≡ s.live → q ≡ (ltb 31 o || not (get_or (live_of l) o false)) → q ≡ b → no_name s o ≡ b
+no_name_lem s o l q b e f t = sym (ap (λ (k : ℕ). ltb 31 o || not (get_or (live_of k) o false)) e) ∙ sym f ∙ t

@@ -49,11 +49,11 @@ module _ (s : Store) (T : Table s.ranges s.count) (n : s.frames ≤ length s.pla
   unfolding located page_of work_of
   located_held l h = go (covering_at (line o p) (ranged_of (used s))) refl h
     where
-      in_frame : (k : ℕ) → covering_at (line o p) (ranged_of (used s)) ≡ slots.At k → (f : Frame)
+      in_frame_lem : (k : ℕ) → covering_at (line o p) (ranged_of (used s)) ≡ slots.At k → (f : Frame)
           → places.frame_at (number_of (get_or s.ranges k zero_range).backing) (index_in (get_or s.ranges k zero_range) (line o p)) 0 (take s.frames s.places) ≡ f
           → in_frame (number_of (get_or s.ranges k zero_range).backing) f ≡ found_at.Present l → Held s x o p l
-      in_frame k c Nothing q e = absurd (let z : ◌≡◌ {A = ℕ} 0 1 = cc in omega arith)
-      in_frame k c (At f) q e =
+      in_frame_lem k c Nothing q e = absurd (let z : ◌≡◌ {A = ℕ} 0 1 = cc in omega arith)
+      in_frame_lem k c (At f) q e =
           let z : record { backing = number_of (get_or s.ranges k zero_range).backing; frame = f } ≡ l = cc in
           let C = covered_at s.ranges s.count T (line o p) k c in
           let F = found.located 4096 s.frames s.places x (number_of (get_or s.ranges k zero_range).backing) (index_in (get_or s.ranges k zero_range) (line o p)) n f q in
@@ -71,7 +71,7 @@ module _ (s : Store) (T : Table s.ranges s.count) (n : s.frames ≤ length s.pla
 
       go : (c : Found) → covering_at (line o p) (ranged_of (used s)) ≡ c → in_found s (line o p) c ≡ found_at.Present l → Held s x o p l
       go slots.Missing c e = absurd (let z : ◌≡◌ {A = ℕ} 0 1 = cc in omega arith)
-      go (slots.At k) c e = in_frame k c _ refl e
+      go (slots.At k) c e = in_frame_lem k c _ refl e
 
   pub located_absent : located s (line o p) ≡ found_at.Absent → page_of (line o p) (work_of s x) ≡ none
   unfolding page_of work_of entry book_of

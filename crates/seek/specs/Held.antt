@@ -149,13 +149,13 @@ module _ (s : Store) (n : s.frames ≤ length s.places) (g : ℕ) (l : Located) 
   unfolding located
   located_positive h = go (covering_at g (ranged_of (used s))) h
     where
-      in_frame : (k : ℕ) (f : Frame) → frame k ≡ f → in_frame (number_of (at k).backing) f ≡ Present l → 0 < l.backing
-      in_frame k Nothing q e = absurd (let z : ◌≡◌ {A = ℕ} 0 1 = cc in omega arith)
-      in_frame k (At f) q e =
+      in_frame_lem : (k : ℕ) (f : Frame) → frame k ≡ f → in_frame (number_of (at k).backing) f ≡ Present l → 0 < l.backing
+      in_frame_lem k Nothing q e = absurd (let z : ◌≡◌ {A = ℕ} 0 1 = cc in omega arith)
+      in_frame_lem k (At f) q e =
           let z : record { backing = number_of (at k).backing; frame = f } ≡ l = cc in
           let b = (there.located 4096 s.frames s.places [] (number_of (at k).backing) (index_in (at k) g) n f q).positive in
           omega (arith, ap (λ w. w.backing) z)
 
       go : (c : Found) → in_found s g c ≡ Present l → 0 < l.backing
       go found.Missing e = absurd (let z : ◌≡◌ {A = ℕ} 0 1 = cc in omega arith)
-      go (found.At k) e = in_frame k (frame k) refl e
+      go (found.At k) e = in_frame_lem k (frame k) refl e

@@ -5,7 +5,7 @@ use Prim.Native.Nat.{ℕ, ◌*◌}
 use borrow.Author.Tests.{eq-eqb, ne_eqb}
 use Rattle.refuse.specs.Refuse.{decides, applies, passes, none_left}
 use Rattle.sheet.specs.Sheet.{store_of}
-use Rattle.judge.specs.Judge.{no_name, row_one}
+use Rattle.judge.specs.Judge.{no_name_lem, row_one}
 use borrow.Author.Rules.{rules}
 use Rattle.judge.proofs.opening.Statement.{statement}
 use Rattle.judge.proofs.opening.Tie as tie
@@ -35,7 +35,7 @@ returns-2 c =
     let s = store_of a.sheet.now in
     let n = c.before.before.before.before.frames.ensures in
     let e = ap not (eq-eqb a.pool (s.frames * 4096) (c.before.before.before.if1.false ∙ ap (λ (k : ℕ). k * 4096) n)) in
-    let q = no_name s a.object _ _ _ c.before.before.live.ensures c.before.no-object.ensures c.if2.true in
+    let q = no_name_lem s a.object _ _ _ c.before.before.live.ensures c.before.no-object.ensures c.if2.true in
     decides _ _ (passes (row_one s c.before.before.before.before.before.requires) (passes e (applies q)))
 
 returns-3 : tie.Need-returns-3
@@ -44,7 +44,7 @@ returns-3 c =
     let s = store_of a.sheet.now in
     let n = c.before.before.before.before.frames.ensures in
     let e = ap not (eq-eqb a.pool (s.frames * 4096) (c.before.before.before.if1.false ∙ ap (λ (k : ℕ). k * 4096) n)) in
-    let q = no_name s a.object _ _ _ c.before.before.live.ensures c.before.no-object.ensures c.if2.false in
+    let q = no_name_lem s a.object _ _ _ c.before.before.live.ensures c.before.no-object.ensures c.if2.false in
     decides _ _ (passes (row_one s c.before.before.before.before.before.requires) (passes e (passes q none_left)))
 
 pub opening-spec : {M : Type 1} → statement M

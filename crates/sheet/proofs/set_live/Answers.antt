@@ -4,14 +4,7 @@ use Rattle.sheet.specs.Edits.{live_set}
 use native.Mathlib.Omega.{arith}
 use borrow.Author.Rules.{rules}
 use Rattle.sheet.specs.Load.{kept_same, kept_set}
-use Rattle.sheet.proofs.set_live.Statement.{statement}
-use Rattle.sheet.proofs.set_live.Tie as tie
+use Rattle.sheet.proofs.set_live.Goals as goal
 
-element-write-sheet : tie.Need-element-write-sheet
-element-write-sheet c = search rules
-
-returns : tie.Need-returns
+pub returns : goal.returns
 returns c = (live_set _ (search rules) _ (search rules), simp length-set (search rules), kept_set 2576 2579 _ _ 2577 _ (kept_same 2576 2579 _) (omega arith) (omega arith))
-
-pub set-live-spec : {M : Type 1} → statement M
-set-live-spec = tie.close (tie.spec element-write-sheet returns)
