@@ -6,8 +6,12 @@ import subprocess
 import tempfile
 
 ROOT = os.path.dirname(os.path.dirname(os.path.abspath(__file__)))
-PROGRAM = os.path.join(ROOT, "target/bin/bench")
+PROGRAM = os.path.join(ROOT, "crates/bench/out/bench")
 STORE = 24728
+
+
+def build():
+    subprocess.run(["rt", "run"], cwd=os.path.join(ROOT, "crates/bench"), check=True, stdin=subprocess.DEVNULL, stdout=subprocess.DEVNULL)
 
 
 def symbols():

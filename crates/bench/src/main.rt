@@ -97,14 +97,14 @@ fn run(work: u8, s: Store, pool: &mut [u8], x: usize, y: usize, turns: usize) ->
 }
 
 // ---- time
-fn timed(work: u8, s: Store, pool: &mut [u8], x: usize, y: usize)
+fn timed(work: u8, s: Store, pool: &mut [u8], x: usize, y: usize, rt: HostRuntime)
     requires { (x ≤ 262144) × (0 < y) × (y ≤ 512) }
 {
     let mut turns: usize = 1;
     while turns < 1000000000 {
-        let a = timing::micros();
+        let a = timing::micros(rt);
         let right = run(work, s, pool, x, y, turns);
-        let b = timing::micros();
+        let b = timing::micros(rt);
         let e = timing::between(a, b);
         if 20000 <= e {
             timing::time_of_one(right, turns, e);
@@ -114,35 +114,44 @@ fn timed(work: u8, s: Store, pool: &mut [u8], x: usize, y: usize)
     }
 }
 
-fn outcome(work: u8, s: Store, pool: &mut [u8], x: usize, y: usize, mode: u8)
+fn outcome(work: u8, s: Store, pool: &mut [u8], x: usize, y: usize, mode: u8, rt: HostRuntime)
     requires { (x ≤ 262144) × (0 < y) × (y ≤ 512) }
 {
     if mode <= b'9' {
         timing::field(run(work, s, pool, x, y, (mode % 16) as usize) as u64);
         return;
     }
-    timed(work, s, pool, x, y);
+    timed(work, s, pool, x, y, rt);
 }
 
 // One line.
-fn measure(work: u8, s: Store, pool: &mut [u8], x: usize, y: usize, mode: u8)
+fn measure(work: u8, s: Store, pool: &mut [u8], x: usize, y: usize, mode: u8, rt: HostRuntime)
     requires { (x ≤ 262144) × (0 < y) × (y ≤ 512) }
 {
     name(work);
     let n = calls::counts(s);
     timing::field(n.frames as u64);
     timing::field(n.ranges as u64);
-    outcome(work, s, pool, x, y, mode);
+    outcome(work, s, pool, x, y, mode, rt);
     io::write_all(1, b"\n");
 }
 
 // Works `first` up to `end`.
-fn measured(first: u8, end: u8, s: Store, pool: &mut [u8], x: usize, y: usize, mode: u8)
+fn measured(
+    first: u8,
+    end: u8,
+    s: Store,
+    pool: &mut [u8],
+    x: usize,
+    y: usize,
+    mode: u8,
+    rt: HostRuntime,
+)
     requires { (x ≤ 262144) × (0 < y) × (y ≤ 512) }
 {
     let mut k: u8 = first;
     while k < end {
-        measure(k, s, pool, x, y, mode);
+        measure(k, s, pool, x, y, mode, rt);
         k += 1;
     }
 }
@@ -166,76 +175,76 @@ fn full(s: Store, pool: &mut [u8], frames: usize, ranges: usize, own: usize) -> 
 }
 
 // The works that need room, then the others on the store filled up.
-fn fill_measured(pool: &mut [u8], frames: usize, ranges: usize, mode: u8)
+fn fill_measured(pool: &mut [u8], frames: usize, ranges: usize, mode: u8, rt: HostRuntime)
     requires { (15 ≤ frames) × (frames ≤ 1024) × (8 ≤ ranges) × (ranges ≤ 512) }
 {
     let s = fills::filled(pool, frames, ranges, 0);
     let own = fills::own_ranges(frames, ranges);
-    measured(11, 15, s, pool, frames, own, mode);
+    measured(11, 15, s, pool, frames, own, mode, rt);
     let t = full(s, pool, frames, ranges, own);
-    measured(0, 11, t, pool, frames, own, mode);
+    measured(0, 11, t, pool, frames, own, mode, rt);
 }
 
 // 8, 40 and 512 ranges; 16, 300 and 1,024 frames. The cut that makes the last two ranges takes a frame.
-fn three_fills(pool: &mut [u8], frames: usize, mode: u8)
+fn three_fills(pool: &mut [u8], frames: usize, mode: u8, rt: HostRuntime)
     requires { (16 ≤ frames) × (frames ≤ 1024) }
 {
-    fill_measured(pool, frames, 8, mode);
-    fill_measured(pool, frames, 40, mode);
+    fill_measured(pool, frames, 8, mode, rt);
+    fill_measured(pool, frames, 40, mode, rt);
     if frames == 1018 {
-        fill_measured(pool, 1018, 508, mode);
+        fill_measured(pool, 1018, 508, mode, rt);
         return;
     }
-    fill_measured(pool, frames - 1, 508, mode);
+    fill_measured(pool, frames - 1, 508, mode, rt);
 }
 
-fn nine_fills(pool: &mut [u8], mode: u8) {
-    three_fills(pool, 16, mode);
-    three_fills(pool, 300, mode);
-    three_fills(pool, 1018, mode);
+fn nine_fills(pool: &mut [u8], mode: u8, rt: HostRuntime) {
+    three_fills(pool, 16, mode, rt);
+    three_fills(pool, 300, mode, rt);
+    three_fills(pool, 1018, mode, rt);
 }
 
 // Hand-over of a record of m ranges.
-fn handed(pool: &mut [u8], pages: usize, m: usize, every: usize, mode: u8)
+fn handed(pool: &mut [u8], pages: usize, m: usize, every: usize, mode: u8, rt: HostRuntime)
     requires { (0 < pages) × (pages ≤ 8192) × (0 < m) × (m ≤ 512) × (0 < every) }
 {
     let s = fills::record(pool, pages, m, every);
     let upto = fills::start_of(m - 1) + fills::part(m - 1, pages, m);
     if 170 < m {
-        measure(18, s, pool, upto, m, mode);
+        measure(18, s, pool, upto, m, mode, rt);
         return;
     }
-    measured(15, 17, s, pool, upto, m, mode);
+    measured(15, 17, s, pool, upto, m, mode, rt);
     let r = copies::copy_ranges(s, pool, 0, 0, 30, 0, upto * 4096);
     let t = r.store;
-    measure(17, t, pool, upto, m, mode);
+    measure(17, t, pool, upto, m, mode, rt);
 }
 
 // 1,024 pages in 1, 40, 170 and 250 ranges; then 513 and 8,192 pages in one range, with as many frames as the first.
-fn hand_overs(pool: &mut [u8], mode: u8) {
+fn hand_overs(pool: &mut [u8], mode: u8, rt: HostRuntime) {
     io::write_all(1, b"# pages 1024\n");
-    handed(pool, 1024, 1, 2, mode);
-    handed(pool, 1024, 40, 2, mode);
-    handed(pool, 1024, 170, 2, mode);
-    handed(pool, 1024, 250, 2, mode);
+    handed(pool, 1024, 1, 2, mode, rt);
+    handed(pool, 1024, 40, 2, mode, rt);
+    handed(pool, 1024, 170, 2, mode, rt);
+    handed(pool, 1024, 250, 2, mode, rt);
     io::write_all(1, b"# pages 513\n");
-    handed(pool, 513, 1, 1, mode);
+    handed(pool, 513, 1, 1, mode, rt);
     io::write_all(1, b"# pages 8192\n");
-    handed(pool, 8192, 1, 16, mode);
+    handed(pool, 8192, 1, 16, mode, rt);
 }
 
 // Soundness where frames do not follow pages.
-fn aged(pool: &mut [u8], frames: usize, ranges: usize, order: u8, mode: u8)
+fn aged(pool: &mut [u8], frames: usize, ranges: usize, order: u8, mode: u8, rt: HostRuntime)
     requires { (15 ≤ frames) × (frames ≤ 1024) × (8 ≤ ranges) × (ranges ≤ 512) }
 {
     let s = fills::filled(pool, frames, ranges, order);
-    measure(1, s, pool, frames, 8, mode);
+    measure(1, s, pool, frames, 8, mode, rt);
 }
 
-fn three_aged(pool: &mut [u8], order: u8, mode: u8) {
-    aged(pool, 300, 40, order, mode);
-    aged(pool, 1024, 8, order, mode);
-    aged(pool, 1024, 510, order, mode);
+fn three_aged(pool: &mut [u8], order: u8, mode: u8, rt: HostRuntime) {
+    aged(pool, 300, 40, order, mode, rt);
+    aged(pool, 1024, 8, order, mode, rt);
+    aged(pool, 1024, 510, order, mode, rt);
 }
 
 // A store without record 0.
@@ -245,109 +254,109 @@ fn without_source(s: Store) -> Store {
 }
 
 // Soundness where many ranges hold one backing, the drop of the record that it came from, and soundness without that record.
-fn source_dropped(s: Store, pool: &mut [u8], mode: u8) {
-    measure(1, s, pool, 1, 1, mode);
-    measure(10, s, pool, 1, 1, mode);
+fn source_dropped(s: Store, pool: &mut [u8], mode: u8, rt: HostRuntime) {
+    measure(1, s, pool, 1, 1, mode, rt);
+    measure(10, s, pool, 1, 1, mode, rt);
     let t = without_source(s);
-    measure(1, t, pool, 1, 1, mode);
+    measure(1, t, pool, 1, 1, mode, rt);
 }
 
-fn cut_up(pool: &mut [u8], frames: usize, cuts: usize, order: u8, mode: u8)
+fn cut_up(pool: &mut [u8], frames: usize, cuts: usize, order: u8, mode: u8, rt: HostRuntime)
     requires { (frames ≤ 1024) × (0 < cuts) × (cuts ≤ 255) × (cuts < frames) }
 {
     let s = fills::shared_by_many(pool, frames, cuts, order);
-    source_dropped(s, pool, mode);
+    source_dropped(s, pool, mode, rt);
 }
 
-fn scattered(pool: &mut [u8], pieces: usize, mode: u8)
+fn scattered(pool: &mut [u8], pieces: usize, mode: u8, rt: HostRuntime)
     requires { pieces ≤ 512 }
 {
     let s = fills::scattered_pieces(pool, pieces);
-    source_dropped(s, pool, mode);
+    source_dropped(s, pool, mode, rt);
 }
 
-fn long_and_short(pool: &mut [u8], pieces: usize, mode: u8)
+fn long_and_short(pool: &mut [u8], pieces: usize, mode: u8, rt: HostRuntime)
     requires { pieces ≤ 400 }
 {
     let s = fills::long_and_short(pool, pieces);
-    source_dropped(s, pool, mode);
+    source_dropped(s, pool, mode, rt);
 }
 
-fn overlapping(pool: &mut [u8], pieces: usize, mode: u8)
+fn overlapping(pool: &mut [u8], pieces: usize, mode: u8, rt: HostRuntime)
     requires { pieces ≤ 500 }
 {
     let s = fills::overlapping(pool, pieces);
-    source_dropped(s, pool, mode);
+    source_dropped(s, pool, mode, rt);
 }
 
-fn four_cut_up(pool: &mut [u8], order: u8, mode: u8) {
-    cut_up(pool, 300, 19, order, mode);
-    cut_up(pool, 1024, 19, order, mode);
-    cut_up(pool, 1024, 100, order, mode);
-    cut_up(pool, 1024, 255, order, mode);
+fn four_cut_up(pool: &mut [u8], order: u8, mode: u8, rt: HostRuntime) {
+    cut_up(pool, 300, 19, order, mode, rt);
+    cut_up(pool, 1024, 19, order, mode, rt);
+    cut_up(pool, 1024, 100, order, mode, rt);
+    cut_up(pool, 1024, 255, order, mode, rt);
 }
 
-fn all_aged(pool: &mut [u8], mode: u8) {
+fn all_aged(pool: &mut [u8], mode: u8, rt: HostRuntime) {
     io::write_all(1, b"# frames scattered\n");
-    three_aged(pool, 1, mode);
+    three_aged(pool, 1, mode, rt);
     io::write_all(1, b"# frames rise\n");
-    three_aged(pool, 2, mode);
+    three_aged(pool, 2, mode, rt);
 }
 
-fn all_cut_up(pool: &mut [u8], mode: u8) {
+fn all_cut_up(pool: &mut [u8], mode: u8, rt: HostRuntime) {
     io::write_all(1, b"# one backing, frames fall\n");
-    four_cut_up(pool, 0, mode);
+    four_cut_up(pool, 0, mode, rt);
     io::write_all(1, b"# one backing, frames scattered\n");
-    four_cut_up(pool, 1, mode);
+    four_cut_up(pool, 1, mode, rt);
     io::write_all(1, b"# one backing, frames rise\n");
-    four_cut_up(pool, 2, mode);
+    four_cut_up(pool, 2, mode, rt);
 }
 
-fn all_in_pieces(pool: &mut [u8], mode: u8) {
+fn all_in_pieces(pool: &mut [u8], mode: u8, rt: HostRuntime) {
     io::write_all(1, b"# one backing, pieces scattered\n");
-    scattered(pool, 150, mode);
-    scattered(pool, 500, mode);
+    scattered(pool, 150, mode, rt);
+    scattered(pool, 500, mode, rt);
     io::write_all(1, b"# one backing, a long window beside short ones\n");
-    long_and_short(pool, 150, mode);
-    long_and_short(pool, 400, mode);
+    long_and_short(pool, 150, mode, rt);
+    long_and_short(pool, 400, mode, rt);
     io::write_all(1, b"# one backing, windows overlap\n");
-    overlapping(pool, 150, mode);
-    overlapping(pool, 500, mode);
+    overlapping(pool, 150, mode, rt);
+    overlapping(pool, 500, mode, rt);
 }
 
-fn table(pool: &mut [u8], mode: u8) {
+fn table(pool: &mut [u8], mode: u8, rt: HostRuntime) {
     io::write_all(1, b"# fills\n");
-    nine_fills(pool, mode);
-    hand_overs(pool, mode);
-    all_aged(pool, mode);
-    all_cut_up(pool, mode);
-    all_in_pieces(pool, mode);
+    nine_fills(pool, mode, rt);
+    hand_overs(pool, mode, rt);
+    all_aged(pool, mode, rt);
+    all_cut_up(pool, mode, rt);
+    all_in_pieces(pool, mode, rt);
 }
 
 // A few turns of each work, at small fills and at one full of ranges.
-fn few_handed(pool: &mut [u8], mode: u8) {
-    handed(pool, 200, 1, 2, mode);
-    handed(pool, 200, 20, 2, mode);
-    handed(pool, 250, 250, 2, mode);
+fn few_handed(pool: &mut [u8], mode: u8, rt: HostRuntime) {
+    handed(pool, 200, 1, 2, mode, rt);
+    handed(pool, 200, 20, 2, mode, rt);
+    handed(pool, 250, 250, 2, mode, rt);
 }
 
-fn few_aged(pool: &mut [u8], mode: u8) {
-    aged(pool, 64, 8, 1, mode);
-    aged(pool, 64, 8, 2, mode);
-    cut_up(pool, 64, 19, 0, mode);
-    cut_up(pool, 64, 19, 1, mode);
-    cut_up(pool, 64, 19, 2, mode);
-    scattered(pool, 40, mode);
-    long_and_short(pool, 40, mode);
-    overlapping(pool, 40, mode);
+fn few_aged(pool: &mut [u8], mode: u8, rt: HostRuntime) {
+    aged(pool, 64, 8, 1, mode, rt);
+    aged(pool, 64, 8, 2, mode, rt);
+    cut_up(pool, 64, 19, 0, mode, rt);
+    cut_up(pool, 64, 19, 1, mode, rt);
+    cut_up(pool, 64, 19, 2, mode, rt);
+    scattered(pool, 40, mode, rt);
+    long_and_short(pool, 40, mode, rt);
+    overlapping(pool, 40, mode, rt);
 }
 
-fn tried(pool: &mut [u8], mode: u8) {
-    fill_measured(pool, 16, 8, mode);
-    fill_measured(pool, 15, 508, mode);
-    fill_measured(pool, 100, 40, mode);
-    few_handed(pool, mode);
-    few_aged(pool, mode);
+fn tried(pool: &mut [u8], mode: u8, rt: HostRuntime) {
+    fill_measured(pool, 16, 8, mode, rt);
+    fill_measured(pool, 15, 508, mode, rt);
+    fill_measured(pool, 100, 40, mode, rt);
+    few_handed(pool, mode, rt);
+    few_aged(pool, mode, rt);
 }
 
 // ---- how cost grows
@@ -364,7 +373,7 @@ fn halved(n: usize, k: usize, least: usize) -> usize
 }
 
 // All works, with room to spare.
-fn fill_grown(pool: &mut [u8], frames: usize, ranges: usize, mode: u8)
+fn fill_grown(pool: &mut [u8], frames: usize, ranges: usize, mode: u8, rt: HostRuntime)
     requires { (15 ≤ frames) × (frames ≤ 1024) × (8 ≤ ranges) × (ranges ≤ 512) }
 {
     let s = fills::filled(pool, frames, ranges, 0);
@@ -376,31 +385,32 @@ fn fill_grown(pool: &mut [u8], frames: usize, ranges: usize, mode: u8)
         frames,
         fills::own_ranges(frames, ranges),
         mode,
+        rt,
     );
 }
 
 // 16 frames, or `least`, up to 1,016; 8 ranges up to `many`.
-fn growth(pool: &mut [u8], least: usize, many: usize, mode: u8)
+fn growth(pool: &mut [u8], least: usize, many: usize, mode: u8, rt: HostRuntime)
     requires { (16 ≤ least) × (least ≤ 1016) × (8 ≤ many) × (many ≤ 508) }
 {
     let mut k: usize = 0;
     while k < 7 {
-        fill_grown(pool, halved(1016, k, least), halved(many, k, 8), mode);
+        fill_grown(pool, halved(1016, k, least), halved(many, k, 8), mode, rt);
         k += 1;
     }
 }
 
 // Calls where many ranges hold one backing, with the record that it came from, and soundness without.
-fn works_of_one_backing(s: Store, pool: &mut [u8], dropped: bool, mode: u8) {
+fn works_of_one_backing(s: Store, pool: &mut [u8], dropped: bool, mode: u8, rt: HostRuntime) {
     if dropped {
         let t = without_source(s);
-        measure(1, t, pool, 1, 1, mode);
+        measure(1, t, pool, 1, 1, mode, rt);
         return;
     }
-    measure(1, s, pool, 1, 1, mode);
-    measure(5, s, pool, 1, 1, mode);
-    measured(8, 12, s, pool, 1, 1, mode);
-    measured(13, 15, s, pool, 1, 1, mode);
+    measure(1, s, pool, 1, 1, mode, rt);
+    measure(5, s, pool, 1, 1, mode, rt);
+    measured(8, 12, s, pool, 1, 1, mode, rt);
+    measured(13, 15, s, pool, 1, 1, mode, rt);
 }
 
 // A backing in half as many pieces as frames, in as many scattered ones, in a long window and short ones, or in windows that overlap; k doubles the pieces.
@@ -421,11 +431,11 @@ fn cut_in(pool: &mut [u8], n: usize) -> Store
     fills::shared_by_many(pool, n, n / 4, 1)
 }
 
-fn growth_of(pool: &mut [u8], kind: u8, dropped: bool, mode: u8) {
+fn growth_of(pool: &mut [u8], kind: u8, dropped: bool, mode: u8, rt: HostRuntime) {
     let mut k: usize = 0;
     while k < 7 {
         let s = one_backing(pool, kind, k);
-        works_of_one_backing(s, pool, dropped, mode);
+        works_of_one_backing(s, pool, dropped, mode, rt);
         k += 1;
     }
 }
@@ -439,43 +449,43 @@ fn kind_name(kind: u8) -> bool {
     }
 }
 
-fn grown_of_one_backing(pool: &mut [u8], mode: u8) {
+fn grown_of_one_backing(pool: &mut [u8], mode: u8, rt: HostRuntime) {
     let mut kind: u8 = 0;
     while kind < 4 {
         kind_name(kind);
         io::write_all(1, b"\n");
-        growth_of(pool, kind, false, mode);
+        growth_of(pool, kind, false, mode, rt);
         kind_name(kind);
         io::write_all(1, b", source dropped\n");
-        growth_of(pool, kind, true, mode);
+        growth_of(pool, kind, true, mode, rt);
         kind += 1;
     }
 }
 
-fn grown(pool: &mut [u8], mode: u8) {
-    grown_of_one_backing(pool, mode);
+fn grown(pool: &mut [u8], mode: u8, rt: HostRuntime) {
+    grown_of_one_backing(pool, mode, rt);
     io::write_all(1, b"# frames and ranges\n");
-    growth(pool, 16, 508, mode);
+    growth(pool, 16, 508, mode, rt);
     io::write_all(1, b"# frames\n");
-    growth(pool, 16, 8, mode);
+    growth(pool, 16, 8, mode, rt);
     io::write_all(1, b"# ranges\n");
-    growth(pool, 1016, 508, mode);
+    growth(pool, 1016, 508, mode, rt);
 }
 
-fn all(pool: &mut [u8], mode: u8) {
+fn all(pool: &mut [u8], mode: u8, rt: HostRuntime) {
     if mode == 0 {
-        tried(pool, b'3');
+        tried(pool, b'3', rt);
         return;
     }
     if mode <= b'9' {
-        tried(pool, mode);
+        tried(pool, mode, rt);
         return;
     }
     if mode == b'g' {
-        grown(pool, mode);
+        grown(pool, mode, rt);
         return;
     }
-    table(pool, mode);
+    table(pool, mode, rt);
 }
 
 // Zeroing and the shadow copy, once, with the store that they leave looked at: calls that stand in the program twice are not compiled into the loop that measures them, where
@@ -490,15 +500,15 @@ fn looked_at(pool: &mut [u8]) -> bool {
     n.number == 0
 }
 
-fn lent(pool: &mut [u8; 4194304], mode: u8) {
+fn lent(pool: &mut [u8; 4194304], mode: u8, rt: HostRuntime) {
     if looked_at(pool) {
-        all(pool, mode);
+        all(pool, mode, rt);
     }
 }
 
-fn main() {
+fn main(rt: HostRuntime) {
     let mut input = [0u8; 1];
     io::read_full(0, &mut input);
     let mut pool = [0u8; 4194304];
-    lent(&mut pool, input[0]);
+    lent(&mut pool, input[0], rt);
 }

@@ -77,14 +77,14 @@ fn read_back(s: Store, pool: &mut [u8], buf: &mut [u8]) -> usize
 }
 
 // ---- lines
-fn timed(work: u8, s: Store, pool: &mut [u8], buf: &mut [u8])
+fn timed(work: u8, s: Store, pool: &mut [u8], buf: &mut [u8], rt: HostRuntime)
     requires { length buf.old ≤ 4194304 }
 {
     let mut turns: usize = 1;
     while turns < 1000000000 {
-        let a = timing::micros();
+        let a = timing::micros(rt);
         let right = run(work, s, pool, buf, turns);
-        let b = timing::micros();
+        let b = timing::micros(rt);
         let e = timing::between(a, b);
         if 20000 <= e {
             timing::time_of_one(right, turns, e);
@@ -94,39 +94,47 @@ fn timed(work: u8, s: Store, pool: &mut [u8], buf: &mut [u8])
     }
 }
 
-fn outcome(work: u8, s: Store, pool: &mut [u8], buf: &mut [u8], clock: bool)
+fn outcome(work: u8, s: Store, pool: &mut [u8], buf: &mut [u8], clock: bool, rt: HostRuntime)
     requires { length buf.old ≤ 4194304 }
 {
     if clock {
-        timed(work, s, pool, buf);
+        timed(work, s, pool, buf, rt);
         return;
     }
     timing::field(run(work, s, pool, buf, 3) as u64);
 }
 
-fn measure(work: u8, s: Store, pool: &mut [u8], buf: &mut [u8], clock: bool)
+fn measure(work: u8, s: Store, pool: &mut [u8], buf: &mut [u8], clock: bool, rt: HostRuntime)
     requires { length buf.old ≤ 4194304 }
 {
     name(work);
     let n = calls::counts(s);
     timing::field(n.frames as u64);
     timing::field(n.ranges as u64);
-    outcome(work, s, pool, buf, clock);
+    outcome(work, s, pool, buf, clock, rt);
     io::write_all(1, b"\n");
 }
 
-fn measured(first: u8, end: u8, s: Store, pool: &mut [u8], buf: &mut [u8], clock: bool)
+fn measured(
+    first: u8,
+    end: u8,
+    s: Store,
+    pool: &mut [u8],
+    buf: &mut [u8],
+    clock: bool,
+    rt: HostRuntime,
+)
     requires { length buf.old ≤ 4194304 }
 {
     let mut k: u8 = first;
     while k < end {
-        measure(k, s, pool, buf, clock);
+        measure(k, s, pool, buf, clock, rt);
         k += 1;
     }
 }
 
 // ---- records as long as the buffer, or half as long, in m ranges that adjoin
-fn whole(pool: &mut [u8], buf: &mut [u8], m: usize, clock: bool)
+fn whole(pool: &mut [u8], buf: &mut [u8], m: usize, clock: bool, rt: HostRuntime)
     requires { (length buf.old ≤ 4194304) × (0 < m) × (m ≤ 512) }
 {
     let s = fills::empty();
@@ -134,91 +142,91 @@ fn whole(pool: &mut [u8], buf: &mut [u8], m: usize, clock: bool)
     io::write_all(1, b"# read back");
     timing::field(read_back(t, pool, buf) as u64);
     io::write_all(1, b"\n");
-    measured(0, 4, t, pool, buf, clock);
+    measured(0, 4, t, pool, buf, clock, rt);
 }
 
 // Copied to record 1, which is present; and without that 512 KiB to record 30, which has no page: each page added needs two slots, so 2 MiB is refused.
-fn halves(pool: &mut [u8], buf: &mut [u8], m: usize, clock: bool)
+fn halves(pool: &mut [u8], buf: &mut [u8], m: usize, clock: bool, rt: HostRuntime)
     requires { (length buf.old ≤ 4194304) × (0 < m) × (m ≤ 512) }
 {
     let n = buf.len() / 8192;
     let s = fills::empty();
     let t = fills::adjoining(s, pool, 0, n, m);
     let u = fills::adjoining(t, pool, 1, n, m);
-    measure(4, u, pool, buf, clock);
-    measure(5, t, pool, buf, clock);
+    measure(4, u, pool, buf, clock, rt);
+    measure(5, t, pool, buf, clock, rt);
 }
 
-fn both(pool: &mut [u8], buf: &mut [u8], m: usize, clock: bool)
+fn both(pool: &mut [u8], buf: &mut [u8], m: usize, clock: bool, rt: HostRuntime)
     requires { (length buf.old ≤ 4194304) × (0 < m) × (m ≤ 255) }
 {
-    whole(pool, buf, 2 * m, clock);
-    halves(pool, buf, m, clock);
+    whole(pool, buf, 2 * m, clock, rt);
+    halves(pool, buf, m, clock, rt);
 }
 
 // 1 MiB in 8 and 64 ranges.
-fn tried(pool: &mut [u8], buf: &mut [u8; 1048576]) {
-    both(pool, buf, 4, false);
-    both(pool, buf, 32, false);
+fn tried(pool: &mut [u8], buf: &mut [u8; 1048576], rt: HostRuntime) {
+    both(pool, buf, 4, false, rt);
+    both(pool, buf, 32, false, rt);
 }
 
-fn small(pool: &mut [u8]) {
+fn small(pool: &mut [u8], rt: HostRuntime) {
     let mut buf = [0u8; 1048576];
-    tried(pool, &mut buf);
+    tried(pool, &mut buf, rt);
 }
 
 // 4 MiB in 8, 40 and 510 ranges.
-fn timed_all(pool: &mut [u8], buf: &mut [u8])
+fn timed_all(pool: &mut [u8], buf: &mut [u8], rt: HostRuntime)
     requires { length buf.old ≤ 4194304 }
 {
-    both(pool, buf, 4, true);
-    both(pool, buf, 20, true);
-    both(pool, buf, 255, true);
+    both(pool, buf, 4, true, rt);
+    both(pool, buf, 20, true, rt);
+    both(pool, buf, 255, true, rt);
 }
 
 // The same from byte k of the buffer on.
-fn at_start(pool: &mut [u8], buf: &mut [u8], k: usize)
+fn at_start(pool: &mut [u8], buf: &mut [u8], k: usize, rt: HostRuntime)
     requires { (length buf.old ≡ 4194352) × (k ≤ 48) }
 {
     let e = k + 4194304;
-    timed_all(pool, &mut buf[k..e]);
+    timed_all(pool, &mut buf[k..e], rt);
 }
 
 // Four starts of the buffer, 16 bytes apart: what a copy costs depends on how the bytes of the buffer and those of a frame lie to each other in a line of the cache.
-fn at_four_starts(pool: &mut [u8], buf: &mut [u8])
+fn at_four_starts(pool: &mut [u8], buf: &mut [u8], rt: HostRuntime)
     requires { length buf.old ≡ 4194352 }
 {
-    at_start(pool, buf, 0);
-    at_start(pool, buf, 16);
-    at_start(pool, buf, 32);
-    at_start(pool, buf, 48);
+    at_start(pool, buf, 0, rt);
+    at_start(pool, buf, 16, rt);
+    at_start(pool, buf, 32, rt);
+    at_start(pool, buf, 48, rt);
 }
 
-fn with_buffer(pool: &mut [u8], buf: &mut [u8; 4194352]) {
-    at_four_starts(pool, buf);
+fn with_buffer(pool: &mut [u8], buf: &mut [u8; 4194352], rt: HostRuntime) {
+    at_four_starts(pool, buf, rt);
 }
 
 // The larger buffer stands in the frame of a function that calls itself, once for each round: it is not compiled into `main`, whose frame it would burst.
-fn large(pool: &mut [u8], rounds: u8) {
+fn large(pool: &mut [u8], rounds: u8, rt: HostRuntime) {
     let mut buf = [0u8; 4194352];
-    with_buffer(pool, &mut buf);
+    with_buffer(pool, &mut buf, rt);
     if 1 < rounds {
-        large(pool, rounds - 1);
+        large(pool, rounds - 1, rt);
     }
 }
 
 // Input `1` is one round.
-fn lent(pool: &mut [u8; 4194304], rounds: u8) {
+fn lent(pool: &mut [u8; 4194304], rounds: u8, rt: HostRuntime) {
     if rounds == 0 {
-        small(pool);
+        small(pool, rt);
         return;
     }
-    large(pool, rounds);
+    large(pool, rounds, rt);
 }
 
-fn main() {
+fn main(rt: HostRuntime) {
     let mut input = [0u8; 1];
     io::read_full(0, &mut input);
     let mut pool = [0u8; 4194304];
-    lent(&mut pool, input[0] % 16);
+    lent(&mut pool, input[0] % 16, rt);
 }

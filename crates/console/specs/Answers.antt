@@ -2,7 +2,7 @@
 use Rattle.std.specs.Prelude.{◌≡◌, refl, List, [], ◌∷◌, ◌++◌, ℕ, zero, suc, ◌+◌, ◌-◌, ◌≤◌, ◌<◌, min, length, take, drop}
 use Rattle.std.proofs.Common.{ap, subst, sym, ◌∙◌, append_assoc, append-nil, arith, length-drop, drop_of_length-le, take_all, drop-drop}
 use Rattle.std.proofs.Math.Nat.{sub-zero}
-use Rattle.bytes.specs.Bytes.{index_of, slice}
+use Rattle.console.specs.Scan.{index_of, slice}
 use Rattle.store.specs.declared.Store.{Store}
 use Rattle.console.specs.Buffers.{take_least}
 use Rattle.lines.specs.Did.{LineDid}

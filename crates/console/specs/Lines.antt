@@ -3,7 +3,7 @@
 use Rattle.std.specs.Prelude.{◌≡◌, refl, true, false, List, [], ◌∷◌, ◌++◌, ℕ, zero, suc, ◌<◌, length, take, drop, eqb}
 use Rattle.std.proofs.Common.{ap, ap₂, sym, ◌∙◌, append_assoc, append-nil, not-suc-le-zero, arith, length-take, take_all}
 use Rattle.lists.specs.Test.{pick, by-test, by-lt}
-use Rattle.bytes.specs.Bytes.{index_of, index_after}
+use Rattle.console.specs.Scan.{index_of}
 
 abbrev pub feed : ℕ
 feed = 10
@@ -76,11 +76,11 @@ ended_append h (x ∷ c) d = by-test (eqb x feed)
 -- ---- the next line feed
 
 index_here : (x : ℕ) (c : List ℕ) → eqb x feed ≡ true → index_of feed (x ∷ c) ≡ 0
-unfolding index_of index_after
+unfolding index_of
 index_here x c t = rw t
 
 index_later : (x : ℕ) (c : List ℕ) → eqb x feed ≡ false → index_of feed (x ∷ c) ≡ suc (index_of feed c)
-unfolding index_of index_after
+unfolding index_of
 index_later x c t = rw t
 
 -- bytes with a line feed at index i: the line ends there

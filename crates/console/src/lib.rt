@@ -3,9 +3,11 @@
 #![tactic(auto)]
 
 ghost use Rattle.std.specs.Prelude.{true, ◌≡◌, [], ◌∷◌, ◌++◌, ◌+◌, ◌≤◌, ◌<◌, min, length, take, drop};
+ghost use Rattle.console.specs.Scan.{index_of, slice};
 ghost use Rattle.console.specs.Lines.{feed, cut, last};
 ghost use Rattle.console.specs.Answers.{Answers, Spoke, Done, Fed};
 
+use std::io::{Read, Stdin};
 use store::Store;
 
 // What is kept of a line under way, and how much output is gathered.
@@ -104,6 +106,18 @@ struct Progress {
     store: Store,
 }
 
+// The first index from `from` on, and below `to`, at which this byte stands, or `to`.
+fn find(chunk: &[u8], from: usize, to: usize, byte: u8) -> usize
+    requires { (from ≤ to) × (to ≤ length chunk.now) }
+    ensures value { result ≡ from + index_of byte (slice from to chunk.now) }
+    ensures bound { result ≤ to }
+{
+    match memchr::memchr(byte, &chunk[from..to]) {
+        Some(k) => from + k,
+        None => to,
+    }
+}
+
 // LINES OF A CHUNK, from index `from`, until the chunk is done or the output is nearly full.
 fn answer_lines(
     s: Store,
@@ -123,7 +137,7 @@ fn answer_lines(
     let mut k = n;
     let mut filled: usize = 0;
     while filled + HELD <= GATHERED {
-        let e = bytes::scan::find(chunk, at, chunk.len(), b'\n');
+        let e = find(chunk, at, chunk.len(), b'\n');
         if e == chunk.len() {
             k = hold(held, k, &chunk[at..e]);
             return Progress {
@@ -151,7 +165,7 @@ fn answer_lines(
 fn write_out(out: &[u8], n: usize) -> bool
     requires { n ≤ length out.now }
 {
-    io::write_all(libc::STDOUT_FILENO, &out[0..n])
+    io::write_all(1, &out[0..n])
 }
 
 // What a chunk leaves: whether all was written, how many bytes are held, the store.
@@ -219,9 +233,17 @@ fn answer_last(
     speak(s, pool, held, n, out, 0)
 }
 
-// Chunk after chunk. A read that fails counts as the end of the input; a write that fails ends the work. A proved loop has to end, and nothing says that
+// The next bytes of the input, as many as there are now, at the start of the chunk. A read that fails counts as the end of the input.
+fn next_chunk(mut input: Stdin, chunk: &mut [u8]) -> usize
+    ensures { result ≤ length chunk.new }
+{
+    input.read(chunk).unwrap_or(0)
+}
+
+// Chunk after chunk. A write that fails ends the work. A proved loop has to end, and nothing says that
 // input does: the chunks are counted down from a number that no run uses up.
 fn answer_all(
+    input: Stdin,
     s: Store,
     pool: &mut [u8],
     chunk: &mut [u8],
@@ -232,8 +254,7 @@ fn answer_all(
     let mut n: usize = 0;
     let mut chunks = u64::MAX;
     while 0 < chunks {
-        let got = libc::read(libc::STDIN_FILENO, chunk);
-        let k = io::count(got, chunk);
+        let k = next_chunk(input, chunk);
         if k == 0 {
             let r = answer_last(t, pool, held, n, out);
             write_out(out, r.filled);
@@ -250,17 +271,17 @@ fn answer_all(
 }
 
 // STANDARD INPUT, answered from a store and its pool.
-pub fn run(s: Store, pool: &mut [u8]) {
+pub fn run(input: Stdin, s: Store, pool: &mut [u8]) {
     let mut chunk = io::large_buffer();
     let mut held = [0u8; HELD];
     let mut out = [0u8; GATHERED];
-    answer_all(s, pool, &mut chunk, &mut held, &mut out);
+    answer_all(input, s, pool, &mut chunk, &mut held, &mut out);
 }
 
 // "The line program starts with a new store of 16 frames and reads lines .. from standard input".
-pub fn start() {
+pub fn start(input: Stdin) {
     let r = calls::create(16);
     let s = r.store;
     let mut pool = io::large_buffer();
-    run(s, &mut pool);
+    run(input, s, &mut pool);
 }

@@ -1,6 +1,6 @@
 // The line program again. Its stored run has each code, and each refusal that lines can reach (model/make).
 #![tactic(auto)]
 
-fn main() {
-    console::start();
+fn main(rt: HostRuntime) {
+    console::start(rt.stdin());
 }

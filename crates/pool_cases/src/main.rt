@@ -3,15 +3,13 @@
 
 ghost use Rattle.std.specs.Prelude.{◌+◌, ◌≤◌, ◌<◌};
 
-use libc::STDOUT_FILENO;
-
 fn report(name: &[u8], ok: bool) {
-    io::write_all(STDOUT_FILENO, name);
+    io::write_all(1, name);
     if ok {
-        io::write_all(STDOUT_FILENO, b" ok\n");
+        io::write_all(1, b" ok\n");
         return;
     }
-    io::write_all(STDOUT_FILENO, b" WRONG\n");
+    io::write_all(1, b" WRONG\n");
 }
 
 // ---- short pools: the six bytes abcdef, and 01234567 to copy from

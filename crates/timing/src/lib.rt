@@ -3,13 +3,14 @@
 
 ghost use Rattle.std.specs.Prelude.{◌≤◌, ◌<◌};
 
+use std::time::CpuClock;
+
 // Processor time in microseconds, and the time from one moment to a later one, at most an hour.
-pub fn micros() -> u64 {
-    let t = libc::clock();
-    if t < 0 {
-        return 0;
+pub fn micros(rt: HostRuntime) -> u64 {
+    match rt.process_cpu_time() {
+        Ok(t) => u64::try_from(t.as_micros()).unwrap_or(0),
+        Err(_) => 0,
     }
-    t as u64
 }
 
 pub fn between(a: u64, b: u64) -> u64
