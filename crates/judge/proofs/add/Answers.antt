@@ -1,0 +1,25 @@
+use mathlib.Core.Path.{◌≡◌}
+use borrow.Author.Tests.{le-leb, lt-leb}
+use Rattle.book.specs.Book.{lowest}
+use Rattle.refuse.specs.Refuse.{opening, opened, add_number, stops, applies, passes, known}
+use native.Mathlib.Omega.{arith}
+use Rattle.sheet.specs.Sheet.{store_of}
+use Rattle.judge.proofs.add.Goals as goal
+
+pub returns-then-k-gt0 : goal.returns-then-k-gt0
+returns-then-k-gt0 c =
+    let a = c.args in
+    let o = c.opening-k in
+    add_number (store_of a.sheet.now) _ a.pool a.object a.page.0 (λ x. stops (opening (store_of a.sheet.now) a.pool a.object) _ _ c.if-k-gt0.true o.ensures)
+
+pub returns-then-page-ge-COUNT : goal.returns-then-page-ge-COUNT
+returns-then-page-ge-COUNT c =
+    let a = c.args in
+    let z : 0 ≡ lowest (opening (store_of a.sheet.now) a.pool a.object) = omega (arith, c.opening-k.ensures, c.if-k-gt0.false) in
+    add_number (store_of a.sheet.now) _ a.pool a.object a.page.0 (λ x. opened (store_of a.sheet.now) a.pool a.object z (applies (le-leb 262144 a.page.0 c.if-page-ge-COUNT.true)))
+
+pub returns : goal.returns
+returns c =
+    let a = c.args in
+    let z : 0 ≡ lowest (opening (store_of a.sheet.now) a.pool a.object) = omega (arith, c.opening-k.ensures, c.if-k-gt0.false) in
+    add_number (store_of a.sheet.now) _ a.pool a.object a.page.0 (λ x. opened (store_of a.sheet.now) a.pool a.object z (passes (lt-leb 262144 a.page.0 c.if-page-ge-COUNT.false) (known (c.lacking.ensures x))))
