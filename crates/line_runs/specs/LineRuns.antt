@@ -12,13 +12,13 @@ use Rattle.store.specs.Abs.{book_of}
 use Rattle.store.specs.Sound.{sound?}
 use Rattle.replies.specs.Line.{parse, printed, line_answer, line_answers, after_lines}
 use Rattle.lines.specs.Did.{LineDid, line_book, line_pool, line_sound}
-use Rattle.runs.specs.Called.{Lent, Started, begun}
-use Rattle.lines.proofs.answer.Reads as answerR
+use Rattle.runs.specs.Called.{Lent, Shared, Started, begun}
+use Rattle.lines.proofs.answer.Reads as answer_reads
 
 -- ONE LINE: store and pool before, line, digits printed, store and pool after. The buffer for the digits may hold anything before.
 pub data Lined : Store → List ℕ → List ℕ → List ℕ → Store → List ℕ → Type 0 where
-  lined : (κs : Lfts 3) (s : Store) (pool line out : Lent) (r : Answered) (y z : List ℕ)
-      → answerR.Learnt κs (s, (pool, (line, (out, tt)))) r (s, (at_last pool y, (line, (at_last out z, tt))))
+  lined : (κs : Lfts 3) (s : Store) (pool : Lent) (line : Shared) (out : Lent) (r : Answered) (y z : List ℕ)
+      → answer_reads.Learnt κs (s, (pool, (line, (out, tt)))) r (s, (at_last pool y, (line, (at_last out z, tt))))
       → Lined s pool.now line.now (take r.length z) r.store y
 
 did : {s t : Store} {x line d y : List ℕ} → Lined s x line d t y → LineDid line s x d t y

@@ -2,11 +2,10 @@
 -- `Learnt κs a r e`: lifetimes of what is lent, arguments, result, arguments when the call ends.
 use Rattle.std.specs.Prelude.{◌≡◌, true, List, ℕ, length}
 use Rattle.std.proofs.Common.{ap, sym, ◌∙◌}
-use Rattle.std.proofs.lemmas.List.{length-map}
 use contract.Lifetimes.{Lfts}
 use mir.Val.{Val}
 use denote.Laws.{Is}
-use denote.Ref.{MutBor, at_last}
+use denote.Ref.{Bor, MutBor, at_last}
 use denote.Struct.Declared.{row}
 use borrow.Fn.Kinds.{ResultKind, res_t}
 use Rattle.page.specs.declared.PageNumber.{PageNumber}
@@ -23,32 +22,36 @@ use Rattle.look.specs.Found.{state_is}
 use Rattle.calls.specs.Calls.{said}
 use Rattle.calls.specs.With.{DidWith, did_with}
 use Rattle.view.specs.Showing.{show_book, show_same}
-use Rattle.store.specs.contracts.Store.{the_type as store-type}
-use Rattle.calls.specs.contracts.Reply.{the_type as reply-type}
-use Rattle.calls.proofs.new_object.Reads as newR
-use Rattle.calls.proofs.new_object.Kinds as new_k
-use Rattle.calls.proofs.drop_object.Reads as drop_r
-use Rattle.calls.proofs.drop_object.Kinds as dropK
-use Rattle.calls.proofs.look_up.Reads as lookR
-use Rattle.calls.proofs.counts.Reads as countsR
-use Rattle.calls.proofs.create.Reads as createR
-use Rattle.calls.proofs.create.Kinds as createK
-use Rattle.view.proofs.show.Reads as showR
-use Rattle.access.proofs.add.Reads as addR
-use Rattle.access.proofs.add.Kinds as addK
-use Rattle.access.proofs.read.Reads as readR
-use Rattle.access.proofs.write.Reads as writeR
-use Rattle.access.proofs.write.Kinds as writeK
-use Rattle.copies.proofs.copy_ranges.Reads as copyR
-use Rattle.copies.proofs.copy_ranges.Kinds as copyK
-use Rattle.copies.proofs.copy_range_to_shadow.Reads as shadowR
-use Rattle.copies.proofs.copy_range_to_shadow.Kinds as shadowK
-use Rattle.copies.proofs.zero_ranges.Reads as zeroR
-use Rattle.copies.proofs.zero_ranges.Kinds as zeroK
+use Rattle.store.specs.contracts.Store.{the_type as store_type}
+use Rattle.calls.specs.contracts.Reply.{the_type as reply_type}
+use Rattle.calls.proofs.new_object.Reads as new_reads
+use Rattle.calls.proofs.new_object.Kinds as new_kinds
+use Rattle.calls.proofs.drop_object.Reads as drop_reads
+use Rattle.calls.proofs.drop_object.Kinds as drop_kinds
+use Rattle.calls.proofs.look_up.Reads as look_reads
+use Rattle.calls.proofs.counts.Reads as counts_reads
+use Rattle.calls.proofs.create.Reads as create_reads
+use Rattle.calls.proofs.create.Kinds as create_kinds
+use Rattle.view.proofs.show.Reads as show_reads
+use Rattle.access.proofs.add.Reads as add_reads
+use Rattle.access.proofs.add.Kinds as add_kinds
+use Rattle.access.proofs.read.Reads as read_reads
+use Rattle.access.proofs.write.Reads as write_reads
+use Rattle.access.proofs.write.Kinds as write_kinds
+use Rattle.copies.proofs.copy_ranges.Reads as copy_reads
+use Rattle.copies.proofs.copy_ranges.Kinds as copy_kinds
+use Rattle.copies.proofs.copy_range_to_shadow.Reads as shadow_reads
+use Rattle.copies.proofs.copy_range_to_shadow.Kinds as shadow_kinds
+use Rattle.copies.proofs.zero_ranges.Reads as zero_reads
+use Rattle.copies.proofs.zero_ranges.Kinds as zero_kinds
 
--- lent bytes: `now` is what they are when the call begins; `at_last lent y` the same reference, with the bytes y when it ends
+-- bytes lent to be written: `now` is what they are when the call begins; `at_last lent y` the same reference, with the bytes y when it ends
 abbrev pub Lent : Type 0
 Lent = MutBor (List ℕ)
+
+-- bytes lent to be read: they stay
+abbrev pub Shared : Type 0
+Shared = Bor (List ℕ)
 
 -- what a caller is told of a result beside the contract: it is of its type, so that each array has its length
 abbrev pub Typed : {n : ℕ} (k : ResultKind n) (κs : Lfts n) → (res_t k κs).Denot → Type 0
@@ -56,50 +59,50 @@ Typed k κs r = k.is.Ok κs r
 
 -- ONE CALL: store and pool before, call, answer in the book's form, store and pool after. A call that lends no pool leaves it.
 pub data Called : Store → List ℕ → Call → Answer → Store → List ℕ → Type 0 where
-  called_new : (s : Store) (x : List ℕ) (o : ℕ) (r : Reply) → newR.Learnt tt (s, (o, tt)) r (s, (o, tt)) → Typed new_k.r tt r
+  called_new : (s : Store) (x : List ℕ) (o : ℕ) (r : Reply) → new_reads.Learnt tt (s, (o, tt)) r (s, (o, tt)) → Typed new_kinds.r tt r
       → Called s x (new_object o) (said r.number done) r.store x
-  called_drop : (s : Store) (x : List ℕ) (o : ℕ) (r : Reply) → drop_r.Learnt tt (s, (o, tt)) r (s, (o, tt)) → Typed dropK.r tt r
+  called_drop : (s : Store) (x : List ℕ) (o : ℕ) (r : Reply) → drop_reads.Learnt tt (s, (o, tt)) r (s, (o, tt)) → Typed drop_kinds.r tt r
       → Called s x (drop_object o) (said r.number done) r.store x
-  called_look : (s : Store) (x : List ℕ) (o : ℕ) (p : PageNumber) (r : Looked) → lookR.Learnt tt (s, (o, (p, tt))) r (s, (o, (p, tt)))
+  called_look : (s : Store) (x : List ℕ) (o : ℕ) (p : PageNumber) (r : Looked) → look_reads.Learnt tt (s, (o, (p, tt))) r (s, (o, (p, tt)))
       → Called s x (look_up o p.0) (said r.number (state (state_is r.state))) s x
-  called_counts : (s : Store) (x : List ℕ) (r : Numbers) → countsR.Learnt tt (s, tt) r (s, tt)
+  called_counts : (s : Store) (x : List ℕ) (r : Numbers) → counts_reads.Learnt tt (s, tt) r (s, tt)
       → Called s x counts (said r.number (numbers r.frames r.ranges)) s x
-  called_show : (κs : Lfts 1) (s : Store) (pool : Lent) (o : ℕ) (p : PageNumber) (r : Lent)
-      → showR.Learnt κs (s, (pool, (o, (p, tt)))) r (s, (pool, (o, (p, tt))))
+  called_show : (κs : Lfts 1) (s : Store) (pool : Shared) (o : ℕ) (p : PageNumber) (r : Shared)
+      → show_reads.Learnt κs (s, (pool, (o, (p, tt)))) r (s, (pool, (o, (p, tt))))
       → Called s pool.now (show o p.0) (bytes r.now) s pool.now
   called_add : (κs : Lfts 1) (s : Store) (pool : Lent) (o : ℕ) (p : PageNumber) (r : Added) (y : List ℕ)
-      → addR.Learnt κs (s, (pool, (o, (p, tt)))) r (s, (at_last pool y, (o, (p, tt)))) → Typed addK.r κs r
+      → add_reads.Learnt κs (s, (pool, (o, (p, tt)))) r (s, (at_last pool y, (o, (p, tt)))) → Typed add_kinds.r κs r
       → Called s pool.now (add o p.0) (said r.number (added r.frame)) r.store y
-  called_read : (κs : Lfts 2) (s : Store) (pool : Lent) (o a : ℕ) (buf : Lent) (k : ℕ) (d : List ℕ)
-      → readR.Learnt κs (s, (pool, (o, (a, (buf, tt))))) k (s, (pool, (o, (a, (at_last buf d, tt)))))
+  called_read : (κs : Lfts 2) (s : Store) (pool : Shared) (o a : ℕ) (buf : Lent) (k : ℕ) (d : List ℕ)
+      → read_reads.Learnt κs (s, (pool, (o, (a, (buf, tt))))) k (s, (pool, (o, (a, (at_last buf d, tt)))))
       → Called s pool.now (read o a (length buf.now)) (said k (bytes d)) s pool.now
-  called_write : (κs : Lfts 2) (s : Store) (pool : Lent) (o a : ℕ) (src : Lent) (r : Reply) (y : List ℕ)
-      → writeR.Learnt κs (s, (pool, (o, (a, (src, tt))))) r (s, (at_last pool y, (o, (a, (src, tt))))) → Typed writeK.r κs r
+  called_write : (κs : Lfts 2) (s : Store) (pool : Lent) (o a : ℕ) (src : Shared) (r : Reply) (y : List ℕ)
+      → write_reads.Learnt κs (s, (pool, (o, (a, (src, tt))))) r (s, (at_last pool y, (o, (a, (src, tt))))) → Typed write_kinds.r κs r
       → Called s pool.now (write o a src.now) (said r.number done) r.store y
   called_copy : (κs : Lfts 1) (s : Store) (pool : Lent) (q a o b n : ℕ) (r : Reply) (y : List ℕ)
-      → copyR.Learnt κs (s, (pool, (q, (a, (o, (b, (n, tt))))))) r (s, (at_last pool y, (q, (a, (o, (b, (n, tt))))))) → Typed copyK.r κs r
+      → copy_reads.Learnt κs (s, (pool, (q, (a, (o, (b, (n, tt))))))) r (s, (at_last pool y, (q, (a, (o, (b, (n, tt))))))) → Typed copy_kinds.r κs r
       → Called s pool.now (copy q a o b n) (said r.number done) r.store y
-  called_shadow : (κs : Lfts 1) (s : Store) (pool : Lent) (q a o b n : ℕ) (r : Reply)
-      → shadowR.Learnt κs (s, (pool, (q, (a, (o, (b, (n, tt))))))) r (s, (pool, (q, (a, (o, (b, (n, tt))))))) → Typed shadowK.r κs r
+  called_shadow : (κs : Lfts 1) (s : Store) (pool : Shared) (q a o b n : ℕ) (r : Reply)
+      → shadow_reads.Learnt κs (s, (pool, (q, (a, (o, (b, (n, tt))))))) r (s, (pool, (q, (a, (o, (b, (n, tt))))))) → Typed shadow_kinds.r κs r
       → Called s pool.now (shadow q a o b n) (said r.number done) r.store pool.now
   called_zero : (κs : Lfts 1) (s : Store) (pool : Lent) (o a n : ℕ) (r : Reply) (y : List ℕ)
-      → zeroR.Learnt κs (s, (pool, (o, (a, (n, tt))))) r (s, (at_last pool y, (o, (a, (n, tt))))) → Typed zeroK.r κs r
+      → zero_reads.Learnt κs (s, (pool, (o, (a, (n, tt))))) r (s, (at_last pool y, (o, (a, (n, tt))))) → Typed zero_kinds.r κs r
       → Called s pool.now (zero_out o a n) (said r.number done) r.store y
 
 -- "The list starts from any store as created and a pool of any length and bytes": frames asked for, pool, store
 pub data Started : ℕ → List ℕ → Store → Type 0 where
-  started : (frames : ℕ) (x : List ℕ) (r : Reply) → createR.Learnt tt (frames, tt) r (frames, tt) → Typed createK.r tt r → Started frames x r.store
+  started : (frames : ℕ) (x : List ℕ) (r : Reply) → create_reads.Learnt tt (frames, tt) r (frames, tt) → Typed create_kinds.r tt r → Started frames x r.store
 
 -- ---- the lengths of the arrays of a store, and of a store in a result
 
-store_sized : (s : Store) (vs : List Val) → Is (row store-type) s vs → Sized s
+store_sized : (s : Store) (vs : List Val) → Is (row store_type) s vs → Sized s
 store_sized s vs t = record {
-  ranges = simp length-map at t.1.1.1.1.1.0.1.0.1;
-  places = simp length-map at t.1.1.1.1.1.1.0.1.0.1;
-  free = simp length-map at t.1.1.1.1.1.1.1.0.1.0.1;
+  ranges = t.1.1.1.1.1.0.1.0.1;
+  places = t.1.1.1.1.1.1.0.1.0.1;
+  free = t.1.1.1.1.1.1.1.0.1.0.1;
 }
 
-reply_sized : (r : Reply) (vs : List Val) → Is (row reply-type) r vs → Sized r.store
+reply_sized : (r : Reply) (vs : List Val) → Is (row reply_type) r vs → Sized r.store
 reply_sized r vs t = store_sized r.store t.0.0 t.1.1.0
 
 -- ---- every call is the book's step

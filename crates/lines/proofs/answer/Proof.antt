@@ -21,15 +21,15 @@ array-share-prefix-reply c = search rules
 slice-aggregate-encode : tie.Need-slice-aggregate-encode
 slice-aggregate-encode c =
     let r = c.before.before.before.before.before.replied in
-    let z = r.new.1.1.1.0 in
-    let l : r.result.length ≤ length z = omega (arith, r.auto.1.1.1.0, r.ensures.0) in
+    let z = r.new.reply in
+    let l : r.result.length ≤ length z = omega (arith, r.auto.reply, r.ensures.0) in
     sym (length-take-le r.result.length z l)
 
 encode-requires : tie.Need-encode-requires
 encode-requires c κs =
     let r = c.before.before.before.before.before.before.replied in
-    let z = r.new.1.1.1.0 in
-    let l : r.result.length ≤ length z = omega (arith, r.auto.1.1.1.0, r.ensures.0) in
+    let z = r.new.reply in
+    let l : r.result.length ≤ length z = omega (arith, r.auto.reply, r.ensures.0) in
     let e : length (take r.result.length z) ≡ r.result.length = length-take-le r.result.length z l in
     let g = c.encode-arg.given in
     omega (arith, e, g.0.1, r.ensures.0)
@@ -43,8 +43,8 @@ same_length c = search rules
 returns : tie.Need-returns
 returns c =
     let r = c.before.before.before.before.before.before.before.replied in
-    let z = r.new.1.1.1.0 in
-    let l : r.result.length ≤ length z = omega (arith, r.auto.1.1.1.0, r.ensures.0) in
+    let z = r.new.reply in
+    let l : r.result.length ≤ length z = omega (arith, r.auto.reply, r.ensures.0) in
     (omega (arith, r.ensures.0), line_did _ _ _ _ _ r.result.length z _ r.ensures.1 l c.encode.ensures)
 
 pub answer-spec : {M : Type 1} → statement M

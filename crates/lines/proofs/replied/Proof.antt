@@ -47,8 +47,8 @@ array-share-prefix-bytes c = search rules
 slice-aggregate-dispatch : tie.Need-slice-aggregate-dispatch
 slice-aggregate-dispatch c =
     let n = c.before.before.before.before.decode in
-    let l : n.result ≤ length n.new.1.0 = omega (arith, n.auto.1.0, c.before.before.if2.false) in
-    sym (length-take-le n.result n.new.1.0 l)
+    let l : n.result ≤ length n.new.bytes = omega (arith, n.auto.bytes, c.before.before.if2.false) in
+    sym (length-take-le n.result n.new.bytes l)
 
 dispatch-requires : tie.Need-dispatch-requires
 dispatch-requires c κs = search rules

@@ -61,7 +61,7 @@ returns c =
     let r = c.before.before.before.read in
     let m : n.result + 1 ≤ length a.reply.now = omega (arith, p.1, n.ensures.1) in
     let l : length (take (n.result + 1 - 1) (drop 1 a.reply.now)) ≡ byte_at 6 a.x.now = lent_length a.reply.now n.result _ n.ensures.0 m in
-    (omega arith, spoke_refused _ _ _ _ _ _ _ (λ i. read (c.before.before.before.before.before.before.before.before.wide.ensures.0 i) (c.before.before.before.before.before.before.before.four.ensures i) (l i)) _ r.ensures.0 (put_mid 1 (n.result + 1 - 1) a.reply.now r.new.1.1.1.1.0) (first_there a.reply.now _ (omega arith)) c.if1.true)
+    (omega arith, spoke_refused _ _ _ _ _ _ _ (λ i. read (c.before.before.before.before.before.before.before.before.wide.ensures.0 i) (c.before.before.before.before.before.before.before.four.ensures i) (l i)) _ r.ensures.0 (put_mid 1 (n.result + 1 - 1) a.reply.now r.new.buf) (first_there a.reply.now _ (omega arith)) c.if1.true)
 
 same-length-2 : tie.Need-same-length-2
 same-length-2 c = search rules
@@ -74,8 +74,8 @@ returns-2 c =
     let r = c.before.before.before.read in
     let m : n.result + 1 ≤ length a.reply.now = omega (arith, p.1, n.ensures.1) in
     let l : length (take (n.result + 1 - 1) (drop 1 a.reply.now)) ≡ byte_at 6 a.x.now = lent_length a.reply.now n.result _ n.ensures.0 m in
-    let d = r.new.1.1.1.1.0 in
-    let k : length d ≡ n.result = r.auto.1.1.1.1.0 ∙ l ∙ sym n.ensures.0 in
+    let d = r.new.buf in
+    let k : length d ≡ n.result = r.auto.buf ∙ l ∙ sym n.ensures.0 in
     (omega arith, spoke_answered _ _ _ _ _ _ _ (λ i. read (c.before.before.before.before.before.before.before.before.wide.ensures.0 i) (c.before.before.before.before.before.before.before.four.ensures i) (l i)) _ r.ensures.0 _ c.if1.false (read_bytes a.reply.now d _ n.result r.result (omega arith) k c.if1.false))
 
 pub read_spec : {M : Type 1} → statement M

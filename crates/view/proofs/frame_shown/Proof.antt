@@ -58,7 +58,7 @@ locate-requires c κs =
     let r : (x : List ℕ) → length x ≡ a.pool → 0 ≡ refusal a.s x (show a.object a.page.0) = λ x e. sym k ∙ refuses T x _ (q.ensures x e) in
     let A = accepts_length a.s a.pool a.object a.page.0 r in
     let E = T.enters (T.test ∙ says_sound a.s A.sound) in
-    (entered_charted E, omega (arith, c.before.before.Line-of.ensures, A.page, A.name))
+    (entered_charted E, omega (arith, c.before.before.line-of.ensures, A.page, A.name))
 
 enum_told : tie.Need-enum-told
 enum_told c = search rules
@@ -76,7 +76,7 @@ returns-2 c =
     let A = accepts_length a.s a.pool a.object a.page.0 r in
     let E = T.enters (T.test ∙ says_sound a.s A.sound) in
     let l : located a.s (line a.object a.page.0) ≡ Absent =
-    ap₂ (λ (t : Store) (g : ℕ). located t g) (sym E.store) (sym c.before.before.before.before.before.Line-of.ensures) ∙ sym c.before.before.locate.ensures ∙ c.enum_told.given.1 in
+    ap₂ (λ (t : Store) (g : ℕ). located t g) (sym E.store) (sym c.before.before.before.before.before.line-of.ensures) ∙ sym c.in-Absent.ensures in
     (λ x e. ap frame_is (sym l) ∙ frame_shown_lem a.s T.sized a.object a.page.0 x (r x e), tt)
 
 returns-3 : tie.Need-returns-3
@@ -88,9 +88,9 @@ returns-3 c =
     let r : (x : List ℕ) → length x ≡ a.pool → 0 ≡ refusal a.s x (show a.object a.page.0) = λ x e. sym k ∙ refuses T x _ (q.ensures x e) in
     let A = accepts_length a.s a.pool a.object a.page.0 r in
     let E = T.enters (T.test ∙ says_sound a.s A.sound) in
-    let p : Located = c.before.l.given.0.0 in
+    let p : Located = c.in-Present.l in
     let l : located a.s (line a.object a.page.0) ≡ Present p =
-    ap₂ (λ (t : Store) (g : ℕ). located t g) (sym E.store) (sym c.before.before.before.before.before.before.Line-of.ensures) ∙ sym c.before.before.before.locate.ensures ∙ c.before.l.given.1 in
+    ap₂ (λ (t : Store) (g : ℕ). located t g) (sym E.store) (sym c.before.before.before.before.before.before.line-of.ensures) ∙ sym c.in-Present.ensures in
     (λ x e. ap frame_is (sym l) ∙ frame_shown_lem a.s T.sized a.object a.page.0 x (r x e), frame_inside a.s T.sized a.object a.page.0 a.pool A p l)
 
 pub frame-shown-spec : {M : Type 1} → statement M

@@ -28,22 +28,20 @@ show-ref-requires-2 c κs = search rules
 returns : tie.Need-returns
 returns c =
     let a = c.before.before.before.before.before.args in
-    let f = c.before.before.before.frame_shown_lem.ensures in
-    let e : none ≡ frame_shown a.s a.pool.now a.object a.page.0 = ap frame_number (sym c.before.enum_told.given.1) ∙ f.0 a.pool.now refl in
+    let e : none ≡ frame_shown a.s a.pool.now a.object a.page.0 = c.in-Nothing.ensures.0 a.pool.now refl in
     let h = c.show-ref.ensures in
     let z = shown_absent 4096 a.pool.now false 0 refl in
-    rw (← e) (h.0 ∙ sym z.0, h.1 ∙ ap (λ k. address a.pool.ref_ptr k) (sym z.1))
+    record { result_value = rw (← e) (h.result_value ∙ sym z.0); ref_ptr_value = rw (← e) (h.ref_ptr_value ∙ ap (λ k. address a.pool.ref_ptr k) (sym z.1)) }
 
 returns-2 : tie.Need-returns-2
 returns-2 c =
     let a = c.before.before.before.before.before.before.args in
-    let f = c.before.before.before.before.frame_shown_lem.ensures in
-    let g : ℕ = c.before.before.f.given.0.0 in
-    let e : some g ≡ frame_shown a.s a.pool.now a.object a.page.0 = ap frame_number (sym c.before.before.f.given.1) ∙ f.0 a.pool.now refl in
-    let i : g * 4096 + 4096 ≤ length a.pool.now = subst (λ q. Inside (length a.pool.now) q) c.before.before.f.given.1 f.1 in
+    let g : ℕ = c.in-At.f in
+    let e : some g ≡ frame_shown a.s a.pool.now a.object a.page.0 = c.in-At.ensures.0 a.pool.now refl in
+    let i : g * 4096 + 4096 ≤ length a.pool.now = c.in-At.ensures.1 in
     let h = c.show-ref2.ensures in
     let z = shown_frame 4096 a.pool.now true g refl i in
-    rw (← e) (h.0 ∙ sym z.0, h.1 ∙ ap (λ k. address a.pool.ref_ptr k) (sym z.1))
+    record { result_value = rw (← e) (h.result_value ∙ sym z.0); ref_ptr_value = rw (← e) (h.ref_ptr_value ∙ ap (λ k. address a.pool.ref_ptr k) (sym z.1)) }
 
 pub show-spec : {M : Type 1} → statement M
 show-spec =
