@@ -1,3 +1,4 @@
+-- a sheet of zeros has a table with no range
 use mathlib.Core.Path.{◌≡◌, ap}
 use mathlib.Core.List.{List}
 use Prim.Native.Nat.{ℕ}
@@ -12,11 +13,8 @@ use Rattle.store.specs.declared.Store.{Store}
 use Rattle.sheet.specs.Sheet.{store_of}
 use Rattle.sheet.specs.Zero.{zero_store}
 use Rattle.rows.specs.Edit.{Blank}
-use borrow.Author.Rules.{rules}
-use Rattle.table_cases.proofs.two.Statement.{statement}
-use Rattle.table_cases.proofs.two.Tie as tie
+use Rattle.table_cases.proofs.two.Goals as goal
 
--- a sheet of zeros has a table with no range
 module _ (w : List ℕ) (z : (k : ℕ) → get_or w k 0 ≡ 0) where
   zero-table : Table (store_of w).ranges (store_of w).count
   unfolding ranged_of Rising
@@ -25,35 +23,30 @@ module _ (w : List ℕ) (z : (k : ℕ) → get_or w k 0 ≡ 0) where
   zero-blank : Blank (store_of w)
   zero-blank = rw (zero_store w z) (zeros_all 512)
 
-pages-requires : tie.Need-pages-requires
-pages-requires c κs = search rules
-
-put-range-requires : tie.Need-put-range-requires
-put-range-requires c κs =
+pub put_range-requires : goal.put_range-requires
+put_range-requires c =
     let n = ap (λ (s : Store). s.count) (zero_store (replicate 2579 0) (one_at {A = ℕ} 0 2579)) in
     let p = c.pages.ensures in
-    ((length-replicate {A = ℕ} 2579 0, zero-table (replicate 2579 0) (one_at {A = ℕ} 0 2579), zero-blank (replicate 2579 0) (one_at {A = ℕ} 0 2579)), (p.0, omega (arith, p.1), omega arith))
+    record {
+      sheet_len = (length-replicate {A = ℕ} 2579 0, zero-table (replicate 2579 0) (one_at {A = ℕ} 0 2579), zero-blank (replicate 2579 0) (one_at {A = ℕ} 0 2579));
+      small = (p.0, omega (arith, p.1), omega arith);
+    }
 
-pages-requires-2 : tie.Need-pages-requires-2
-pages-requires-2 c κs = search rules
-
-put-range-requires-2 : tie.Need-put-range-requires-2
-put-range-requires-2 c κs =
+pub put_range-requires-2 : goal.put_range-requires-2
+put_range-requires-2 c =
     let n = ap (λ (s : Store). s.count) (zero_store (replicate 2579 0) (one_at {A = ℕ} 0 2579)) in
-    let r = c.before.before.put-range.ensures in
+    let r = c.put_range.ensures in
     let f = r.0.few in
-    let p = c.pages2.ensures in
-    ((r.1, r.0.table, r.0.blank), (p.0, omega (arith, p.1), omega arith))
+    let p = c.pages-2.ensures in
+    record {
+      sheet_len = (r.1, r.0.table, r.0.blank);
+      small = (p.0, omega (arith, p.1), omega arith);
+    }
 
-returns : tie.Need-returns
+pub returns : goal.returns
 returns c =
     let n = ap (λ (s : Store). s.count) (zero_store (replicate 2579 0) (one_at {A = ℕ} 0 2579)) in
-    let f = c.before.before.before.put-range.ensures.0.few in
-    let r = c.put-range2.ensures in
+    let f = c.put_range.ensures.0.few in
+    let r = c.put_range-2.ensures in
     let g = r.0.few in
     (r.1, r.0.table, r.0.blank, omega arith)
-
-pub two-spec : {M : Type 1} → statement M
-two-spec =
-    tie.close
-    (tie.spec pages-requires put-range-requires pages-requires-2 put-range-requires-2 returns)
