@@ -1,13 +1,13 @@
 -- THE LINES OF AN INPUT with all their bytes, and that the answers to them are the same when each is cut after its 513th byte.
 use Rattle.std.specs.Prelude.{◌≡◌, refl, List, [], ◌∷◌, ◌++◌, map, ℕ, eqb}
-use Rattle.std.proofs.Common.{ap, ap₂, sym, ◌∙◌, append_assoc}
+use Rattle.std.proofs.Common.{ap, sym, ◌∙◌}
 use Rattle.std.proofs.Math.Option.{none}
 use Rattle.lists.specs.Test.{pick, by-test}
 use Rattle.book.specs.Book.{Book, pool_after}
 use Rattle.replies.specs.Line.{parse, printed, line_answer, line_answers, after_lines}
 use Rattle.lines.specs.Fields.{parse_long}
 use Rattle.line_runs.specs.LineRuns.{line_pools}
-use Rattle.console.specs.Lines.{feed, cut, ended, underway, last, cut_unseen, cut_cut, ended_same, underway_same, ended_append, underway_append}
+use Rattle.console.specs.Lines.{feed, cut, ended, underway, last, cut_unseen}
 
 -- "Lines end in a line feed; the last one's may be missing." The lines of the bytes c, where the bytes h of the first one have come before; `last h` is the one
 -- line h, or none where h is empty
@@ -31,17 +31,6 @@ lines_cut h [] = sym (last_cut h)
 lines_cut h (x ∷ c) = by-test (eqb x feed)
     (λ t. rw t (ap (λ l. cut h ∷ l) (lines_cut [] c)))
     (λ t. rw t (lines_cut (h ++ (x ∷ [])) c))
-
--- after a part c, of whose last line g is held, what comes goes on with g
-pub lines_part : (h c g d : List ℕ) → underway h c ≡ cut g → map cut (lines_from h (c ++ d)) ≡ ended h c ++ map cut (lines_from g d)
-lines_part h c g d e =
-    let p : ended (underway h c) d ≡ ended g d = ap (λ l. ended l d) e ∙ ended_same (cut g) g d (cut_cut 513 g) in
-    let q : underway (underway h c) d ≡ underway g d = ap (λ l. underway l d) e ∙ underway_same (cut g) g d (cut_cut 513 g) in
-    lines_cut h (c ++ d)
-    ∙ ap₂ (λ l w. l ++ last w) (ended_append h c d) (underway_append h c d)
-    ∙ append_assoc (ended h c) (ended (underway h c) d) (last (underway (underway h c) d))
-    ∙ ap₂ (λ l w. ended h c ++ (l ++ last w)) p q
-    ∙ ap (λ l. ended h c ++ l) (sym (lines_cut g d))
 
 -- ---- and no answer differs by that: "one with over 512 digits .. prints `FF`"
 

@@ -8,7 +8,8 @@ use Rattle.std.proofs.lemmas.List.{length-map, length-replicate}
 use Rattle.ranges.specs.Range.{Ranged, carve, put, Rising}
 use Rattle.ranges.specs.Cut.{carve_rising}
 use Rattle.ranges.specs.Piece.{Piece}
-use Rattle.ranges.specs.Over.{put_rising, put_all_lem, carve_all}
+use Rattle.ranges.specs.Over.{put_rising}
+use Rattle.ranges.proofs.Over.{put_all_lem, carve_all}
 use Rattle.ranges.specs.Few.{put_more}
 use Rattle.table.specs.declared.PageRange.{PageRange}
 use Rattle.table.specs.declared.BackingPages.{BackingPages}

@@ -12,7 +12,7 @@ use Rattle.lists.specs.Test.{by-test, by-eq, by-lt}
 use Rattle.ranges.specs.Range.{Range, Slot, line, from, upto, slot_at, put}
 use Rattle.ranges.specs.Table.{parts, moved}
 use Rattle.ranges.specs.Piece.{Piece}
-use Rattle.ranges.specs.Over.{put_all_lem, carve_all}
+use Rattle.ranges.proofs.Over.{put_all_lem, carve_all}
 use Rattle.ranges.specs.Parts.{part_some, part_none}
 use Rattle.book.specs.Page.{Span, span_of, tail_at, touched, over}
 use Rattle.book.specs.Work.{Work, page_of, settle, add_page, writable, edited, write_page}

@@ -10,7 +10,8 @@ use Rattle.lists.specs.Test.{by-test, by-eq, by-lt}
 use Rattle.ranges.specs.Range.{Range, Slot, line, from, upto, slot_at, carve, put, Rising}
 use Rattle.ranges.specs.Table.{parts, moved}
 use Rattle.ranges.specs.Cut.{carve_rising}
-use Rattle.ranges.specs.Over.{put_rising, put_all_lem, carve_all}
+use Rattle.ranges.specs.Over.{put_rising}
+use Rattle.ranges.proofs.Over.{put_all_lem, carve_all}
 use Rattle.ranges.specs.Parts.{part_some, part_none}
 use Rattle.book.specs.Cell.{trim, vacate, edit}
 use Rattle.book.specs.Page.{Span, span_of, tail_at, touched, over}

@@ -10,9 +10,12 @@ use Rattle.lists.specs.Test.{by-lt, by-eq}
 use Rattle.ranges.specs.Range.{Range, Slot, line, from, upto, slot_in, slot_at}
 use Rattle.ranges.specs.Table.{holders, fresh}
 use Rattle.ranges.specs.Fresh.{fresh_unused, fresh_small}
-use Rattle.ranges.specs.Cut.{carve_inside, carve_below, carve_above}
-use Rattle.ranges.specs.Over.{put_hit, put_other}
-use Rattle.ranges.specs.Parts.{or_else, source, shared_in_lem, shared_out}
+use Rattle.ranges.specs.Cut.{carve_inside, carve_below}
+use Rattle.ranges.proofs.Cut.{carve_above}
+use Rattle.ranges.specs.Over.{put_hit}
+use Rattle.ranges.proofs.Over.{put_other}
+use Rattle.ranges.specs.Parts.{or_else, source}
+use Rattle.ranges.proofs.Parts.{shared_in_lem, shared_out}
 use Rattle.book.specs.Work.{Work, settle}
 use Rattle.book.specs.Pages.{sharing, uncover}
 use Rattle.book.specs.Book.{Book}

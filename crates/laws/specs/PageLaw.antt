@@ -11,7 +11,8 @@ use Rattle.lists.specs.Test.{by-lt}
 use Rattle.ranges.specs.Range.{Range, Slot, line, from, upto, slot_in, slot_at}
 use Rattle.ranges.specs.Table.{holders}
 use Rattle.ranges.specs.Find.{Found, found}
-use Rattle.ranges.specs.Over.{put_in, put_hit, put_keeps, put_other}
+use Rattle.ranges.specs.Over.{put_in, put_hit, put_keeps}
+use Rattle.ranges.proofs.Over.{put_other}
 use Rattle.ranges.specs.Hold.{held_once, holders_put}
 use Rattle.book.specs.Cell.{Cell, free, edit, changed}
 use Rattle.book.specs.Work.{Work, next, slot_bytes, page_of, settle, seen, writable, edited, write_page}

@@ -10,7 +10,8 @@ use Rattle.std.proofs.Math.Seq.{get_or-set_other}
 use Rattle.ranges.specs.Range.{Range, Slot, from, upto, slot_at, put}
 use Rattle.ranges.specs.Table.{named}
 use Rattle.ranges.specs.Find.{named_mem, slot_named}
-use Rattle.ranges.specs.Over.{put_rising, put_in, put_other, put_all_lem}
+use Rattle.ranges.specs.Over.{put_rising, put_in}
+use Rattle.ranges.proofs.Over.{put_other, put_all_lem}
 use Rattle.book.specs.Cell.{Cell, free, holds, bytes_at, trim, vacate}
 use Rattle.book.specs.Work.{Work, next, page_of, settle}
 use Rattle.laws.specs.Cells.{Differ, trim_at, vacate_at, set_at, trim_free, vacate_free, set_other, set_here, vacate_other, vacate_here, trim_named}

@@ -9,11 +9,13 @@ use mathlib.Core.List.{List, [], ◌∷◌, ◌++◌, map}
 use Prim.Native.Nat.{ℕ, ◌+◌, ◌-◌, ◌≤◌, ◌<◌, min, max}
 use Rattle.lists.specs.Test.{by-lt, by-eq}
 use Rattle.ranges.specs.Range.{Range, Slot, line, from, upto, slot_in, slot_at, carve, put}
-use Rattle.ranges.specs.Cut.{slot_hit, slot_low, slot_high, carve_inside, carve_below, carve_above}
+use Rattle.ranges.specs.Cut.{slot_hit, slot_low, slot_high, carve_inside, carve_below}
+use Rattle.ranges.proofs.Cut.{carve_above}
 use Rattle.ranges.specs.Table.{part, parts, moved}
 use Rattle.ranges.specs.Find.{slot_named}
-use Rattle.ranges.specs.Over.{put_other}
-use Rattle.ranges.specs.Parts.{put_all, or_else, source, part_some, part_none, shared_in_lem}
+use Rattle.ranges.proofs.Over.{put_other}
+use Rattle.ranges.specs.Parts.{put_all, or_else, source, part_some, part_none}
+use Rattle.ranges.proofs.Parts.{shared_in_lem}
 use Rattle.book.specs.Cell.{trim}
 use Rattle.book.specs.Work.{Work, slot_bytes, page_of}
 use Rattle.book.specs.Pages.{with_ranges, share, sharing, uncover}

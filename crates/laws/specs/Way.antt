@@ -12,7 +12,8 @@ use Rattle.ranges.specs.Range.{Range, Slot, line, from, upto, keep, covers, slot
 use Rattle.ranges.specs.Table.{holders, fresh, previous}
 use Rattle.ranges.specs.Piece.{Piece, rising_mem}
 use Rattle.ranges.specs.Find.{Found, found, slot_mem, previous_mem, previous_low, previous_none, previous_gap, In, named_in}
-use Rattle.ranges.specs.Hold.{unheld, held_once, held_some, put_once}
+use Rattle.ranges.specs.Hold.{unheld, held_once, held_some}
+use Rattle.ranges.proofs.Hold.{put_once}
 use Rattle.ranges.specs.Fresh.{fresh_unused, fresh_small}
 use Rattle.book.specs.Work.{is_shared, joins, Work, slot_bytes, page_of, settle, single, own, blank, seen, add_in, add_at, add_page, privately, writable}
 use Rattle.book.specs.Cell.{bytes_at}

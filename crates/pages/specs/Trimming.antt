@@ -9,7 +9,8 @@ use Rattle.lists.specs.Test.{by-eq, by-lt, by-test}
 use Rattle.ranges.specs.Range.{Range, Slot, from, upto, put, slot_in, slot_at, Rising}
 use Rattle.ranges.specs.Table.{named}
 use Rattle.ranges.specs.Find.{In, named_in, named_mem, slot_mem, slot_named}
-use Rattle.ranges.specs.Over.{Rest, put_hit, put_mem, put_other}
+use Rattle.ranges.specs.Over.{Rest, put_hit}
+use Rattle.ranges.proofs.Over.{put_mem, put_other}
 use Rattle.store.specs.Trim.{kept_place}
 use Rattle.places.specs.Places.{nowhere, place_at, stands_at, emptied_at}
 use Rattle.store.specs.Edits.{slot, trimmed, vacated, mapped_at, stands_place, Only}

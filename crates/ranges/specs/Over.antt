@@ -1,14 +1,14 @@
 -- A range put over its span: what stands there, what stays, and which ranges the table then has.
 use Rattle.std.specs.Prelude.{◌≡◌, ◌⊎◌, ℕ, ◌-◌, ◌≤◌, ◌<◌}
-use Rattle.std.proofs.Common.{◌∙◌, inl, inr, ⊎_elim, arith}
+use Rattle.std.proofs.Common.{⊎_elim, arith}
 use Rattle.std.proofs.Math.Option.{some}
 use mathlib.Core.List.Memᴰ
 use mathlib.Core.List.{List, [], ◌∷◌, ◌++◌, Memᴰ}
 use Rattle.lists.specs.Test.{by-lt}
 use Rattle.ranges.specs.Range.{Range, Ranged, from, upto, slot_in, slot_at, front, back, carve, insert, put, Rising}
-use Rattle.ranges.specs.Cut.{carve_below, carve_above, carve_rising, front_below, front_none, back_some, back_none}
-use Rattle.ranges.specs.Piece.{Cut, carve_mem, insert_mem, insert_in, clear_mem, Piece}
-use Rattle.ranges.specs.Put.{insert_here, insert_later, insert_other, insert_hit, insert_rising, carve_clear, skip_zero}
+use Rattle.ranges.specs.Cut.{carve_rising, front_below, front_none, back_some, back_none}
+use Rattle.ranges.specs.Piece.{Cut, insert_in}
+use Rattle.ranges.specs.Put.{insert_here, insert_later, insert_hit, insert_rising, carve_clear, skip_zero}
 
 pub put_rising : {B : Type 0} (n : Ranged B) (rs : List (Ranged B)) → 0 < n.len → Rising 0 rs → Rising 0 (put n rs)
 unfolding put
@@ -23,24 +23,10 @@ pub put_in : {B : Type 0} (n : Ranged B) (rs : List (Ranged B)) → Memᴰ n (pu
 unfolding put
 put_in n rs = insert_in n (carve (from n) (upto n) rs)
 
--- what stands outside a range that is put in stays
-pub put_other : (n : Range) (g : ℕ) (rs : List Range) → (g < from n) ⊎ (upto n ≤ g) → slot_at g (put n rs) ≡ slot_at g rs
-unfolding put
-put_other n g rs o =
-    insert_other n g (carve (from n) (upto n) rs) o
-    ∙ ⊎_elim (λ h. carve_below (from n) (upto n) g rs (omega arith) h) (λ h. carve_above (from n) (upto n) g rs (omega arith) h) o
-
 -- a member of the table after a put: the range put in, or a piece of an old one, clear of it
 pub record Rest {B : Type 0} (n q : Ranged B) (rs : List (Ranged B)) : Type 0 where
   pub cut : Cut q rs
   pub clear : (upto q ≤ from n) ⊎ (upto n ≤ from q)
-
-pub put_mem : {B : Type 0} (n q : Ranged B) (rs : List (Ranged B)) → Memᴰ q (put n rs) → (q ≡ n) ⊎ Rest n q rs
-unfolding put
-put_mem n q rs m =
-    ⊎_elim (λ e. inl e)
-    (λ k. inr (record { cut = carve_mem (from n) (upto n) q rs k; clear = clear_mem (from n) (upto n) q (carve (from n) (upto n) rs) (carve_clear (from n) (upto n) rs (omega arith)) k }))
-    (insert_mem n q (carve (from n) (upto n) rs) m)
 
 pub whole_piece : {B : Type 0} (a e : ℕ) (r : Ranged B) → a ≤ e → 0 < r.len → (upto r ≤ a) ⊎ (e ≤ from r) → front a r ++ back e r ≡ r ∷ []
 whole_piece a e r h l x =
@@ -69,13 +55,3 @@ insert_keeps n r (q ∷ rs) m =
 pub put_keeps : {B : Type 0} (n r : Ranged B) (rs : List (Ranged B)) → Rising 0 rs → Memᴰ r rs → (upto r ≤ from n) ⊎ (upto n ≤ from r) → Memᴰ r (put n rs)
 unfolding put
 put_keeps n r rs s m x = insert_keeps n r (carve (from n) (upto n) rs) (carve_keeps (from n) (upto n) 0 r rs (omega arith) s m x)
-
--- what holds of every range of a table and of every piece of one holds after a cut; and after a put, if it holds of the range put in
-pub carve_all : {B : Type 0} {P : Ranged B → Type 0} → ((q r : Ranged B) → Piece q r → P r → P q) → (a e : ℕ) (rs : List (Ranged B))
-    → ((r : Ranged B) → Memᴰ r rs → P r) → (q : Ranged B) → Memᴰ q (carve a e rs) → P q
-carve_all piece a e rs h q m = let C : Cut q rs = carve_mem a e q rs m in piece q C.r C.piece (h C.r C.mem)
-
-pub put_all_lem : {B : Type 0} {P : Ranged B → Type 0} → ((q r : Ranged B) → Piece q r → P r → P q) → (n : Ranged B) (rs : List (Ranged B))
-    → P n → ((r : Ranged B) → Memᴰ r rs → P r) → (q : Ranged B) → Memᴰ q (put n rs) → P q
-put_all_lem {B} {P} piece n rs hn h q m =
-    ⊎_elim (λ e. rw e hn) (λ (R : Rest n q rs). piece q R.cut.r R.cut.piece (h R.cut.r R.cut.mem)) (put_mem n q rs m)

@@ -11,7 +11,8 @@ use Rattle.store.specs.declared.Store.{Store}
 use Rattle.lists.specs.Test.{by-lt}
 use Rattle.ranges.specs.Range.{line, from, upto, put, slot_at}
 use Rattle.ranges.specs.Table.{part, moved}
-use Rattle.ranges.specs.Over.{put_keeps, put_other}
+use Rattle.ranges.specs.Over.{put_keeps}
+use Rattle.ranges.proofs.Over.{put_other}
 use Rattle.ranges.specs.Few.{put_more}
 use Rattle.book.specs.Pages.{with_ranges, share}
 use Rattle.laws.specs.Kept.{put_kept}

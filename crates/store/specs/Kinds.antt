@@ -13,9 +13,11 @@ use Rattle.edit.specs.declared.RangeTable.{RangeTable}
 use Rattle.lists.specs.Every.{All}
 use Rattle.ranges.specs.Range.{Range, Ranged, from, upto, carve, put, Rising}
 use Rattle.ranges.specs.Table.{holders}
-use Rattle.ranges.specs.Piece.{Piece, Cut, carve_mem, rising_mem}
+use Rattle.ranges.specs.Piece.{Piece, Cut, rising_mem}
+use Rattle.ranges.proofs.Piece.{carve_mem}
 use Rattle.ranges.specs.Cut.{carve_rising}
-use Rattle.ranges.specs.Over.{Rest, put_mem, put_rising}
+use Rattle.ranges.specs.Over.{Rest, put_rising}
+use Rattle.ranges.proofs.Over.{put_mem}
 use Rattle.ranges.specs.Hold.{unheld, held_once}
 use Rattle.table.specs.Table.{number_of, ranged, unranged, ranged_of, range_of, ranges_of}
 use Rattle.edit.specs.Edit.{put_table, cut_table}

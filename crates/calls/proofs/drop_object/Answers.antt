@@ -11,7 +11,8 @@ use Rattle.store.specs.Abs.{used}
 use Rattle.refuse.specs.Refuse.{refusal}
 use Rattle.enter.specs.Enter.{accepted, refuses, tried}
 use Rattle.calls.specs.Calls.{did_refused}
-use Rattle.calls.specs.Drop.{Dropped, drop_name, drop_room, drop_done}
+use Rattle.calls.specs.Drop.{Dropped}
+use Rattle.calls.proofs.Drop.{drop_name, drop_room, drop_done}
 use native.Mathlib.Omega.{arith}
 use Rattle.closing.specs.Closed.{closed_parts}
 use Rattle.sound.specs.Parts.{brought}
