@@ -1,0 +1,5 @@
+-- `bench_bulk::large` meets its contract. The rounds fall with each call of itself.
+use Rattle.bench_bulk.proofs.+large.Given as goal
+
+abbrev pub decreases-large : goal.decreases-large
+decreases-large l = l.rounds
