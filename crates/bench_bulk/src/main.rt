@@ -170,6 +170,7 @@ fn tried(pool: &mut [u8], buf: &mut [u8; 1048576], rt: HostRuntime) {
     both(pool, buf, 32, false, rt);
 }
 
+#[inline(never)]
 fn small(pool: &mut [u8], rt: HostRuntime) {
     let mut buf = [0u8; 1048576];
     tried(pool, &mut buf, rt);
@@ -207,6 +208,7 @@ fn with_buffer(pool: &mut [u8], buf: &mut [u8; 4194352], rt: HostRuntime) {
 }
 
 // The larger buffer stands in the frame of a function that calls itself, once for each round: it is not compiled into `main`, whose frame it would burst.
+#[inline(never)]
 fn large(pool: &mut [u8], rounds: u8, rt: HostRuntime) {
     let mut buf = [0u8; 4194352];
     with_buffer(pool, &mut buf, rt);
