@@ -207,7 +207,7 @@ fn with_buffer(pool: &mut [u8], buf: &mut [u8; 4194352], rt: HostRuntime) {
     at_four_starts(pool, buf, rt);
 }
 
-// The larger buffer stands in the frame of a function that calls itself, once for each round: it is not compiled into `main`, whose frame it would burst.
+// The buffers stand in frames of functions of their own, which are not compiled into `main`: its frame would burst. One call of itself for each round.
 #[inline(never)]
 fn large(pool: &mut [u8], rounds: u8, rt: HostRuntime) {
     let mut buf = [0u8; 4194352];
