@@ -1,0 +1,150 @@
+-- The holders of a backing, met along one chain of a store's ranges.
+use Rattle.std.proofs.Math.Path.{◌≡◌, ap}
+use Rattle.std.specs.Prelude.{refl, Bool, true, false, ℕ, zero, suc, ◌+◌, ◌-◌, ◌%◌, ◌≤◌, ◌<◌, drop, get_or, length, min, take}
+use Rattle.std.proofs.Common.{sym, ◌∙◌, le_refl, add-one, arith, eq-eqb, le-ltb, lt-ltb}
+use Rattle.std.proofs.lemmas.Bool.{false≢true}
+use Rattle.std.proofs.lemmas.List.{take_min}
+use mathlib.Core.List.{List}
+use Rattle.frames.specs.declared.Frame.{Frame}
+use Rattle.frames.specs.declared.Frame.TheVariants.{At, Nothing}
+use Rattle.table.specs.declared.Found.{Found}
+use Rattle.table.specs.declared.Found.TheVariants as found
+use Rattle.table.specs.declared.PageRange.{PageRange}
+use Rattle.look.specs.declared.Located.{Located}
+use Rattle.look.specs.declared.PageAt.TheVariants.{Present}
+use Rattle.look.specs.declared.State.TheVariants as state
+use Rattle.store.specs.declared.Store.{Store}
+use Rattle.charts.specs.declared.Chains.{Chains}
+use Rattle.lists.specs.Test.{by-eq, by-lt, pick}
+use Rattle.ranges.specs.Table.{holders}
+use Rattle.table.specs.Table.{number_of, ranged_of, ranges_of, zero_range, covering_at}
+use Rattle.table.specs.Holding.{holders_end, holders_hit, holders_miss, left}
+use Rattle.places.specs.Places.{frame_at, place_at}
+use Rattle.store.specs.Abs.{used}
+use Rattle.lookup.specs.Charted.{there_positive}
+use Rattle.places.specs.Found.{frame_found}
+use Rattle.look.specs.Look.{index_in, in_frame, in_found, located, shared_in}
+use Rattle.chains.specs.Chains.{in_chain, last_same}
+use Rattle.chains.specs.Walk.{Along, along_at, along_less, along_next, along_same}
+use Rattle.charts.specs.Charts.{RangeChains, backing_at, chain_by}
+
+-- the walk along the chain of backing b, of the first n of the ranges, is at link k, with a holder met or none yet
+pub record Meets (rs : List PageRange) (n : ℕ) (c : Chains) (b : ℕ) (met : Bool) (k : ℕ) : Type 0 where
+  pub along : Along (chain_by rs) (b % 1024) c.next n k
+  pub held : pick met 1 0 ≡ holders b (left rs n k)
+
+-- ---- how many of the first n ranges, from number j on, hold a backing; the table may be shorter than n
+module _ (rs : List PageRange) (n b : ℕ) where
+  abbrev from : ℕ → ℕ
+  from j = holders b (left rs n j)
+
+  abbrev m : ℕ
+  m = min n (length rs)
+
+  short : (j : ℕ) → from j ≡ holders b (left rs m j)
+  short j = ap (λ (us : List PageRange). holders b (ranges_of (drop j us))) (sym (take_min n rs))
+
+  none : (j : ℕ) → m ≤ j → from j ≡ 0
+  none j h = short j ∙ holders_end rs m (omega arith) b j h
+
+  hit : (j : ℕ) → j < n → j < length rs → backing_at rs j ≡ b → from j ≡ suc (from (j + 1))
+  hit j h l e = short j ∙ holders_hit rs m (omega arith) b j (backing_at rs j) (omega arith) refl (sym e) ∙ ap suc (sym (short (j + 1)))
+
+  miss : (j : ℕ) → (backing_at rs j ≡ b → ⊥) → from j ≡ from (j + 1)
+  miss j e =
+      by-lt j m
+      (λ h. short j ∙ holders_miss rs m (omega arith) b j (backing_at rs j) h refl (λ q. e (sym q)) ∙ sym (short (j + 1)))
+      (λ h. none j h ∙ sym (none (j + 1) (omega arith)))
+
+  -- no more from a later number on
+  fewer : (j : ℕ) → from j ≤ from 0
+  fewer zero = le_refl (from 0)
+  fewer (suc j) =
+      by-lt j m
+      (λ h.
+      by-eq (backing_at rs j) b
+      (λ e. rw (← add-one) (omega (arith, hit j (omega arith) (omega arith) e, fewer j)))
+      (λ e. rw (← add-one) (omega (arith, miss j e, fewer j))))
+      (λ h. omega (arith, none (suc j) (omega arith)))
+
+module _ (rs : List PageRange) (n : ℕ) (c : Chains) (b : ℕ) where
+  -- a range of another chain does not hold it
+  other : (j : ℕ) → j < n → in_chain (chain_by rs) (b % 1024) j ≡ false → from rs n b (suc j) ≡ from rs n b j
+  other j l o =
+      rw (← add-one)
+      (sym (miss rs n b j (λ e. false≢true (sym o ∙ eq-eqb (chain_by rs j) (b % 1024) (ap (λ (x : ℕ). x % 1024) e)))))
+
+  pub meets_none : RangeChains rs n c → Meets rs n c b false (get_or c.heads (b % 1024) 0)
+  meets_none C =
+      let e = C.heads (b % 1024) (omega arith) in
+      record {
+        along = along_at (chain_by rs) (b % 1024) c.next n n (get_or c.heads (b % 1024) 0) C.next (omega arith) (le_refl n) e;
+        held = sym (ap (from rs n b) e ∙ last_same (in_chain (chain_by rs) (b % 1024)) (from rs n b) n other ∙ none rs n b n (omega arith));
+      }
+
+  module _ (m : Bool) (k : ℕ) (M : Meets rs n c b m k) (u : 0 < k) where
+    next : Along (chain_by rs) (b % 1024) c.next n (get_or c.next (k - 1) 0)
+    next = along_next (chain_by rs) (b % 1024) c.next n k M.along u
+
+    same : from rs n b (get_or c.next (k - 1) 0) ≡ from rs n b (k - 1)
+    same = along_same (chain_by rs) (b % 1024) c.next n k M.along u (from rs n b) other
+
+    here : k - 1 + 1 ≡ k
+    here = omega arith
+
+    pub meets_less : get_or c.next (k - 1) 0 < k
+    meets_less = along_less (chain_by rs) (b % 1024) c.next n k M.along u
+
+    pub meets_miss : (backing_at rs (k - 1) ≡ b → ⊥) → Meets rs n c b m (get_or c.next (k - 1) 0)
+    meets_miss q = record { along = next; held = M.held ∙ sym (same ∙ rw here at (miss rs n b (k - 1) q)) }
+
+    module _ (l : k ≤ length rs) (q : backing_at rs (k - 1) ≡ b) where
+      one : from rs n b (k - 1) ≡ suc (pick m 1 0)
+      one = let i = M.along.low in rw here at (hit rs n b (k - 1) (omega arith) (omega arith) q) ∙ ap suc (sym M.held)
+
+      -- a holder where none was met before
+      pub meets_one : m ≡ false → Meets rs n c b true (get_or c.next (k - 1) 0)
+      meets_one i = record { along = next; held = sym (same ∙ one ∙ ap (λ (t : Bool). suc (pick t 1 0)) i) }
+
+      -- another holder where one was met before
+      pub meets_two : m ≡ true → 1 < holders b (left rs n 0)
+      meets_two i = omega (arith, one ∙ ap (λ (t : Bool). suc (pick t 1 0)) i, fewer rs n b (k - 1))
+
+  pub meets_end : (m : Bool) (k : ℕ) → Meets rs n c b m k → k ≡ 0 → holders b (left rs n 0) ≤ 1
+  meets_end m k M z = let q : from rs n b 0 ≡ pick m 1 0 = ap (from rs n b) (sym z) ∙ sym M.held in rw q (few m)
+    where
+      few : (t : Bool) → pick t 1 0 ≤ 1
+      few true = omega arith
+      few false = omega arith
+
+-- what that says of the store
+module _ (s : Store) (c : Chains) (b : ℕ) (m : Bool) (k : ℕ) (M : Meets s.ranges s.count c b m k) where
+  pub meets_shared : 0 < k → k ≤ length s.ranges → backing_at s.ranges (k - 1) ≡ b → m ≡ true → state.Shared ≡ shared_in s b
+  meets_shared u l q i = rw (lt-ltb 1 (holders b (ranges_of (used s))) (meets_two s.ranges s.count c b m k M u l q i))
+
+  pub meets_private : k ≡ 0 → state.Private ≡ shared_in s b
+  meets_private z = rw (le-ltb 1 (holders b (ranges_of (used s))) (meets_end s.ranges s.count c b m k M z))
+
+-- a page that is present has a backing with a number
+module _ (s : Store) (g : ℕ) (l : Located) where
+  abbrev at : ℕ → PageRange
+  at k = get_or s.ranges k zero_range
+
+  abbrev frame : ℕ → Frame
+  frame k = frame_at (number_of (at k).backing) (index_in (at k) g) 0 (take s.frames s.places)
+
+  pub located_positive : located s g ≡ Present l → 0 < l.backing
+  unfolding located
+  located_positive h = go (covering_at g (ranged_of (used s))) h
+    where
+      in_frame_lem : (k : ℕ) (f : Frame) → frame k ≡ f → in_frame (number_of (at k).backing) f ≡ Present l → 0 < l.backing
+      in_frame_lem k Nothing q e = absurd (let z : ◌≡◌ {A = ℕ} 0 1 = cc in omega arith)
+      in_frame_lem k (At f) q e =
+          let z : record { backing = number_of (at k).backing; frame = f } ≡ l = cc in
+          let F = frame_found (number_of (at k).backing) (index_in (at k) g) 0 (take s.frames s.places) f q in
+          let b = there_positive (number_of (at k).backing) (index_in (at k) g) (place_at (take s.frames s.places) F.at) F.stands in
+          omega (arith, ap (λ w. w.backing) z)
+
+      go : (c : Found) → in_found s g c ≡ Present l → 0 < l.backing
+      go found.Missing e = absurd (let z : ◌≡◌ {A = ℕ} 0 1 = cc in omega arith)
+      go (found.At k) e = in_frame_lem k (frame k) refl e

@@ -1,0 +1,3 @@
+pub mod Charted
+pub mod Covers
+pub mod Holders

@@ -1,0 +1,2 @@
+pub mod Depart
+pub mod Step

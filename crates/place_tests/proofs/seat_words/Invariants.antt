@@ -1,0 +1,11 @@
+-- The frames of the words below `i` pass, and are chained.
+use Rattle.std.proofs.Common.{◌≡◌, ◌*◌, min}
+use Rattle.place_tests.specs.Placed.{Seated}
+use Rattle.place_tests.proofs.seat_words.Given as goal
+
+abbrev pub invariant-loop-i : goal.invariant-loop-i
+invariant-loop-i l = record {
+  seated : Seated l.s (min l.s.frames (l.i * 64)) l.chains;
+  ranges : l.seeking.windows.ranges.now ≡ l.s.ranges;
+  count : l.seeking.windows.count ≡ l.s.count;
+}

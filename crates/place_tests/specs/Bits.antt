@@ -1,0 +1,126 @@
+-- The tests of a frame's place and of its bit, made as one.
+use Rattle.std.specs.Prelude.{◌≡◌, refl, Bool, true, false, not, ◌&&◌, ◌||◌, List, ℕ, zero, suc, ◌+◌, ◌-◌, ◌*◌, ◌/◌, ◌%◌, ◌^◌, ◌≤◌, ◌<◌, eqb, ltb, get_or, count_by, length, take}
+use Rattle.std.proofs.Common.{sym, ap, ◌∙◌, pow-suc, add-one, le-ltb, lt-ltb, ne_eqb}
+use Rattle.std.proofs.lemmas.Bool.{false≢true}
+use Rattle.std.proofs.lemmas.List.Sums.{count_by_more_no, count_by_more_yes}
+use Rattle.std.proofs.Math.Nat.{div-div-eq-div-mul, zero-div}
+use native.Mathlib.Omega.{arith}
+use Rattle.places.specs.declared.Place.{Place}
+use Rattle.lists.specs.Test.{by-lt, by-test}
+use Rattle.lists.specs.Every.{all_below, at_below, below_at}
+use Rattle.frames.specs.Free.{free_bit}
+use Rattle.frames.specs.Bits.{not_bit}
+use Rattle.places.specs.Places.{place_at}
+use Rattle.store.specs.Sound.{bit?, idle?, same}
+
+pub below_both : (P Q : ℕ → Bool) (n : ℕ) → all_below (λ f. P f && Q f) n ≡ (all_below P n && all_below Q n)
+unfolding all_below
+below_both P Q zero = refl
+below_both P Q (suc n) = rw (below_both P Q n) (swap (P n) (Q n) (all_below P n) (all_below Q n))
+  where
+    swap : (a b c d : Bool) → ((a && b) && (c && d)) ≡ ((a && c) && (b && d))
+    swap true true true d = refl
+    swap true true false d = refl
+    swap true false true d = refl
+    swap true false false d = refl
+    swap false b c d = refl
+
+-- ---- frame f of n stands at p, its bit being set or not
+-- a place that is zero
+abbrev pub zero_place? : Place → Bool
+zero_place? p = eqb p.backing 0 && eqb p.index 0
+
+-- what both tests of it say
+abbrev pub place_kept? : ℕ → ℕ → Bool → Place → Bool
+place_kept? n f set p = idle? n f p && same set (ltb f n && eqb p.backing 0)
+
+module _ (n f : ℕ) (p : Place) where
+  pub bit_free : f < n → zero_place? p ≡ place_kept? n f true p
+  bit_free h = rw (lt-ltb f n h) (both (eqb p.backing 0) (eqb p.index 0))
+    where
+      both : (b i : Bool) → (b && i) ≡ ((not b || (b && i)) && b)
+      both true true = refl
+      both true false = refl
+      both false i = refl
+
+  pub bit_used : f < n → not (eqb p.backing 0) ≡ place_kept? n f false p
+  bit_used h = rw (lt-ltb f n h) (both (eqb p.backing 0) (eqb p.index 0))
+    where
+      both : (b i : Bool) → not b ≡ ((not b || (b && i)) && not b)
+      both true true = refl
+      both true false = refl
+      both false i = refl
+
+  pub bit_beyond : (set : Bool) → n ≤ f → (not set && zero_place? p) ≡ place_kept? n f set p
+  bit_beyond set h = rw (le-ltb f n h) (both set (zero_place? p))
+    where
+      both : (s z : Bool) → (not s && z) ≡ (z && same s false)
+      both true true = refl
+      both true false = refl
+      both false true = refl
+      both false false = refl
+
+-- the test of one frame
+abbrev pub kept? : ℕ → List Place → List ℕ → ℕ → Bool
+kept? n ps ws f = idle? n f (place_at ps f) && bit? n ps ws f
+
+-- the next bit of a word
+pub bit_next : (x k : ℕ) → x / 2 ^ k / 2 ≡ x / 2 ^ (k + 1)
+bit_next x k = div-div-eq-div-mul x (2 ^ k) 2 ∙ ap (λ (n : ℕ). x / n) (sym (ap (λ (n : ℕ). 2 ^ n) (add-one k) ∙ pow-suc 2 k))
+
+-- the test of frame a + k, whose bit is bit k of the word w
+abbrev pub word_kept? : ℕ → List Place → ℕ → ℕ → ℕ → Bool
+word_kept? n ps w a k = place_kept? n (a + k) (eqb (w / 2 ^ k % 2) 1) (place_at ps (a + k))
+
+-- no bit of the word is set
+pub word_used : (n : ℕ) (ps : List Place) (a k : ℕ) → a + k < n → word_kept? n ps 0 a k ≡ not (eqb (place_at ps (a + k)).backing 0)
+word_used n ps a k h = rw (zero-div (2 ^ k)) (sym (bit_used n (a + k) (place_at ps (a + k)) h))
+
+-- all bits of the word are set
+pub word_free : (n : ℕ) (ps : List Place) (a k : ℕ) → k < 64 → a + k < n → word_kept? n ps 18446744073709551615 a k ≡ zero_place? (place_at ps (a + k))
+word_free n ps a k l h = rw (full k l) (sym (bit_free n (a + k) (place_at ps (a + k)) h))
+  where
+    full : (k : ℕ) → k < 64 → 18446744073709551615 / 2 ^ k % 2 ≡ 1
+    full k l = not_bit 0 k (omega arith) l ∙ rw (zero-div (2 ^ k))
+
+-- the frames of word i
+module _ (n : ℕ) (ps : List Place) (ws : List ℕ) (i : ℕ) where
+  pub kept_word : (k : ℕ) → k < 64 → word_kept? n ps (get_or ws i 0) (i * 64) k ≡ kept? n ps ws (i * 64 + k)
+  unfolding free_bit
+  kept_word k h =
+      let d : (i * 64 + k) / 64 ≡ i = omega arith in
+      let m : (i * 64 + k) % 64 ≡ k = omega arith in
+      rw (d, m)
+
+  pub words_next : all_below (kept? n ps ws) (i * 64) ≡ true → all_below (word_kept? n ps (get_or ws i 0) (i * 64)) 64 ≡ true → all_below (kept? n ps ws) ((i + 1) * 64) ≡ true
+  words_next p q =
+      at_below (kept? n ps ws) ((i + 1) * 64)
+      (λ f h. by-lt f (i * 64)
+      (λ l. below_at (kept? n ps ws) (i * 64) p f l)
+      (λ l.
+      let e : i * 64 + (f - i * 64) ≡ f = omega arith in
+      let b : f - i * 64 < 64 = omega arith in
+      sym (ap (kept? n ps ws) e) ∙ sym (kept_word (f - i * 64) b) ∙ below_at (word_kept? n ps (get_or ws i 0) (i * 64)) 64 q (f - i * 64) b))
+
+  pub words_fail : i < 16 → all_below (word_kept? n ps (get_or ws i 0) (i * 64)) 64 ≡ false → false ≡ all_below (kept? n ps ws) 1024
+  words_fail l q =
+      by-test (all_below (kept? n ps ws) 1024)
+      (λ h. absurd (false≢true (sym q ∙ at_below (word_kept? n ps (get_or ws i 0) (i * 64)) 64 (λ k b. kept_word k b ∙ below_at (kept? n ps ws) 1024 h (i * 64 + k) (omega arith)))))
+      (λ h. sym h)
+
+-- ---- none of the first n elements is counted
+pub none_counted : {A : Type 0} (P : A → Bool) (d : A) (l : List A) (Q : ℕ → Bool) (n : ℕ) → n ≤ length l → ((k : ℕ) → k < n → Q k ≡ not (P (get_or l k d))) → eqb (count_by P (take n l)) 0 ≡ all_below Q n
+unfolding all_below
+none_counted P d l Q zero m e = refl
+none_counted P d l Q (suc n) m e =
+    by-test (P (get_or l n d))
+    (λ t.
+    let c : count_by P (take (suc n) l) ≡ count_by P (take n l) + 1 = ap (λ (k : ℕ). count_by P (take k l)) (sym (add-one n)) ∙ count_by_more_yes P l n d (omega arith) t in
+    ne_eqb (count_by P (take (suc n) l)) 0 (λ z. omega arith) ∙ rw (e n (omega arith), t))
+    (λ t.
+    let c : count_by P (take (suc n) l) ≡ count_by P (take n l) = ap (λ (k : ℕ). count_by P (take k l)) (sym (add-one n)) ∙ count_by_more_no P l n d (omega arith) t in
+    rw (c, e n (omega arith), t) (none_counted P d l Q n (omega arith) (λ k h. e k (omega arith))))
+
+pub not_not : (b : Bool) → not (not b) ≡ b
+not_not true = refl
+not_not false = refl

@@ -1,0 +1,5 @@
+pub mod Alone
+pub mod Bits
+pub mod Covered
+pub mod Placed
+pub mod Seats

@@ -1,0 +1,4 @@
+pub mod Rows
+pub mod Shift
+pub mod Edit
+pub mod Made

@@ -1,0 +1,188 @@
+// THE TABLE OF RANGES OF A STORE: the searches in it, and a range put over its span or pages cut out of it, in place.
+#![tactic(auto)]
+
+ghost use Rattle.std.specs.Prelude.{◌≡◌, [], ◌+◌, ◌-◌, ◌^◌, ◌≤◌, ◌<◌, length};
+ghost use Rattle.ranges.specs.Range.{carve};
+ghost use Rattle.ranges.specs.Search.{starts_before, ends_by};
+ghost use Rattle.ranges.specs.Table.{holders, fresh, named};
+ghost use Rattle.table.specs.Table.{covering_at, ranged_of, ranges_of, Small, Table};
+ghost use Rattle.store.specs.Abs.{used};
+ghost use Rattle.range_table.specs.Edit.{Blank, CutIs, PutIs, Shifted, parts_made, rows_of, with_rows};
+ghost use Rattle.range_table.specs.Made.{spliced_in};
+ghost use Rattle.range_table.specs.Rows.{Held};
+
+use store::Store;
+use table::{Found, PageRange, Piece, back_of, front_of, in_window, number, zero_range};
+
+// How many ranges begin before page g of the line, by halving.
+pub fn starts_before(s: &Store, g: usize) -> usize
+    requires { Table s.now.ranges s.now.count }
+    ensures { result ≡ starts_before g (ranged_of (used s.now)) }
+{
+    // by hand: `partition_point` asks for a closure that may be called at any range, and `first` asks for a small one
+    let mut low: usize = 0;
+    let mut high = s.count;
+    while low < high {
+        let middle = low + (high - low) / 2;
+        if s.ranges[middle].first() < g {
+            low = middle + 1;
+        } else {
+            high = middle;
+        }
+    }
+    low
+}
+
+// How many of the first ranges end by page a of the line.
+pub fn ends_by(s: &Store, a: usize) -> usize
+    requires { Table s.now.ranges s.now.count }
+    ensures { result ≡ ends_by a (ranged_of (used s.now)) }
+{
+    let n = starts_before(s, a);
+    if 0 < n && a < s.ranges[n - 1].end() {
+        return n - 1;
+    }
+    n
+}
+
+// The place of the range that covers page g of the line.
+pub fn covering(s: &Store, g: usize) -> Found
+    requires { (Table s.now.ranges s.now.count) × (g + 1 < 2 ^ 64) }
+    ensures { result ≡ covering_at g (ranged_of (used s.now)) }
+{
+    let n = starts_before(s, g + 1);
+    if 0 < n && g < s.ranges[n - 1].end() {
+        return Found::At(n - 1);
+    }
+    Found::Missing
+}
+
+// How many ranges hold a backing.
+pub fn holder_count(s: &Store, b: u32) -> usize
+    requires { s.now.count ≤ 512 }
+    ensures { result ≡ holders b (ranges_of (used s.now)) }
+{
+    s.ranges[..s.count]
+        .iter()
+        .filter(|r| number(r.backing) == b)
+        .count()
+}
+
+// Whether index i of backing b lies in the window of some range.
+pub fn has_window(s: &Store, b: u32, i: u32) -> bool
+    requires { s.now.count ≤ 512 }
+    ensures { result ≡ named b i (ranges_of (used s.now)) }
+{
+    s.ranges[..s.count].iter().any(|r| in_window(*r, b, i))
+}
+
+// The numbers up to 512 that a range holds are marked; none is before.
+fn mark(ranges: &[PageRange], held: &mut [bool; 513])
+    requires { Held [] held.old }
+    ensures { Held (ranges_of ranges.now) held.new }
+{
+    for r in ranges {
+        let b = number(r.backing) as usize;
+        if b < 513 {
+            held[b] = true;
+        }
+    }
+}
+
+// The smallest positive number that no range holds.
+pub fn fresh_number(s: &Store) -> u32
+    requires { s.now.count ≤ 512 }
+    ensures { result ≡ fresh (ranges_of (used s.now)) }
+{
+    let mut held = [false; 513];
+    mark(&s.ranges[..s.count], &mut held);
+    for n in 1..s.count + 1 {
+        if !held[n] {
+            return n as u32;
+        }
+    }
+    s.count as u32 + 1
+}
+
+// The rows from `from` on moved to `to`; the slots that are then unused are zero.
+pub fn shift(s: &mut Store, from: usize, to: usize)
+    requires room { (s.old.count ≤ 512) × (from ≤ s.old.count) × (s.old.count + to ≤ 512 + from) }
+    requires blank { Blank s.old }
+    ensures { Shifted s.old from to s.new }
+{
+    let old = s.count;
+    if from != to {
+        s.ranges.copy_within(from..old, to);
+    }
+    s.count = to + (old - from);
+    s.ranges[s.count.min(old)..old].fill(zero_range());
+}
+
+// How many rows a part is.
+fn width(q: Piece) -> usize
+    ensures { result ≡ length (rows_of q) }
+{
+    match q {
+        Piece::Empty => 0,
+        Piece::Part(_) => 1,
+    }
+}
+
+// A part written as row `at`, if it is one.
+fn lay(s: &mut Store, at: usize, q: Piece)
+    requires { at + length (rows_of q) ≤ 512 }
+    ensures { s.new ≡ with_rows at (rows_of q) s.old }
+{
+    if let Piece::Part(r) = q {
+        s.ranges[at] = r;
+    }
+}
+
+// The rows from p up to q replaced by three parts, each of them a row or none.
+fn replace(s: &mut Store, p: usize, q: usize, before: Piece, middle: Piece, after: Piece)
+    requires rows { (s.old.count ≤ 512) × (p ≤ q) × (q ≤ s.old.count) × (s.old.count + length (parts_made before middle after) ≤ 512 + (q - p)) }
+    requires blank { Blank s.old }
+    ensures { s.new ≡ spliced_in s.old p (q - p) (parts_made before middle after) }
+{
+    let x = width(before);
+    let y = width(middle);
+    let z = width(after);
+    shift(s, q, p + x + y + z);
+    lay(s, p, before);
+    lay(s, p + x, middle);
+    lay(s, p + x + y, after);
+}
+
+// A range put over its span, whatever was there.
+pub fn put_range(s: &mut Store, n: PageRange)
+    requires table { (Table s.old.ranges s.old.count) × (Blank s.old) }
+    requires small { (Small n) × (0 < n.length) × (s.old.count + 2 ≤ 512) }
+    ensures { PutIs n s.old s.new }
+{
+    let (a, e) = (n.first(), n.end());
+    let p = ends_by(s, a);
+    let q = starts_before(s, e);
+    if p < q {
+        let before = front_of(s.ranges[p], a);
+        let after = back_of(s.ranges[q - 1], e);
+        replace(s, p, q, before, Piece::Part(n), after);
+        return;
+    }
+    shift(s, p, p + 1);
+    s.ranges[p] = n;
+}
+
+// The pages from a up to e of the line cut out.
+pub fn cut_range(s: &mut Store, a: usize, e: usize)
+    requires table { (Table s.old.ranges s.old.count) × (Blank s.old) }
+    requires span { (a < e) × (length (carve a e (ranged_of (used s.old))) ≤ 512) }
+    ensures { CutIs a e s.old s.new }
+{
+    let p = ends_by(s, a);
+    let q = starts_before(s, e);
+    if p < q {
+        let before = front_of(s.ranges[p], a);
+        let after = back_of(s.ranges[q - 1], e);
+        replace(s, p, q, before, Piece::Empty, after);
+    }
+}

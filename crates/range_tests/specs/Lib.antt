@@ -1,0 +1,5 @@
+pub mod Agree
+pub mod Chaining
+pub mod Fit
+pub mod Shape
+pub mod Slots

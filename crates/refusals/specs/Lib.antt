@@ -1,0 +1,5 @@
+pub mod Enter
+pub mod Needs
+pub mod Number
+pub mod Refuse
+pub mod Spans

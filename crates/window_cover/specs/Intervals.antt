@@ -1,0 +1,580 @@
+-- Intervals of indices that the windows of ranges cover, in chains by the blocks of indices that they meet.
+use Rattle.std.specs.Prelude.{◌≡◌, refl, Bool, true, false, not, ◌&&◌, List, ℕ, zero, suc, ◌+◌, ◌-◌, ◌*◌, ◌/◌, ◌%◌, ◌^◌, ◌≤◌, ◌<◌, Option, Some, None, is_some, min, max, eqb, leb, ltb, get_or, length, replicate, set, take}
+use Rattle.std.proofs.Common.{sym, ap, ◌∙◌, div-lt_iff_lt-mul, le_refl, add-one, arith, pow_pos, get_or-set_other, get_or-set_same, eq-eqb, eqb-true, le-leb, leb-true, lt-ltb, ltb-true, ne_eqb, length-set}
+use Rattle.std.proofs.lemmas.Bool.{false≢true, not-true}
+use Rattle.std.proofs.lemmas.List.{length-replicate}
+use Rattle.std.proofs.Math.Nat.{add-div_right, div-eq_of_lt, pow-le-pow_right, pow-succ'}
+use Rattle.std.proofs.Math.Pow.{shr_mono}
+use Rattle.places.specs.declared.Place.{Place}
+use Rattle.table.specs.declared.PageRange.{PageRange}
+use Rattle.window_cover.specs.declared.Interval.{Interval}
+use Rattle.window_cover.specs.declared.Cover.{Cover}
+use Rattle.lists.specs.Test.{pick, and_left, and_right, by-eq, by-lt, by-test}
+use Rattle.lists.specs.Every.{all_below, at_below, below_fails, none_both}
+use Rattle.ranges.specs.Table.{named}
+use Rattle.table.specs.Table.{number_of, ranges_of, zero_range}
+use Rattle.chains.specs.Chains.{Chained, chained_alike, chained_next, in_chain, last_below, last_le}
+use Rattle.chains.specs.Walk.{Along, along_at, along_less, along_next, onward}
+use Rattle.window_search.specs.Windows.{chains_none, in_window, outside, windows_told}
+use Rattle.charts.specs.Charts.{chain_by}
+
+-- the place lies in the interval
+abbrev pub within : Interval → Place → Bool
+within a p = eqb p.backing a.backing && (leb a.first p.index && ltb p.index a.end)
+
+-- the intervals overlap
+abbrev pub meets : Interval → Interval → Bool
+meets a b = eqb a.backing b.backing && (ltb a.first b.end && ltb b.first a.end)
+
+-- two that overlap, as one
+abbrev pub united : Interval → Interval → Interval
+united a b = record { backing = a.backing; first = min a.first b.first; end = max a.end b.end }
+
+-- the chain of block c of 2^k indices of backing b
+abbrev pub key_of : ℕ → ℕ → ℕ → ℕ
+key_of b k c = (b % 1024 * 633 + k * 101 + (c + c / 1024)) % 1024
+
+abbrev pub interval_at : Cover → ℕ → Interval
+interval_at v c = get_or v.intervals c (record { backing = 0; first = 0; end = 0 })
+
+-- the place lies in one of the intervals
+abbrev pub covered : Cover → Place → Bool
+covered v p = not (all_below (λ c. not (within (interval_at v c) p)) v.count)
+
+-- the intervals are in chains
+pub record Filed (chain : ℕ → ℕ) (v : Cover) : Type 0 where
+  pub few : v.count ≤ 1024
+  pub intervals : length v.intervals ≡ 1024
+  pub heads : length v.chains.heads ≡ 1024
+  pub next : length v.chains.next ≡ 1024
+  pub sizes : length v.sizes ≡ 34
+  pub chained : Chained chain v.count v.chains.heads v.chains.next
+
+-- the slot of an interval of chain h that passes a test, or none where none of the chain does
+abbrev pub First : (Interval → Bool → Type 0) → (ℕ → ℕ) → Cover → ℕ → Option ℕ → Type 0
+First T chain v h None = (c : ℕ) → c < v.count → chain c ≡ h → T (interval_at v c) false
+First T chain v h (Some i) = (i < v.count) × (chain i ≡ h) × T (interval_at v i) true
+
+-- every place of the intervals passes the test
+abbrev pub Pass : (Place → Bool) → Cover → Type 0
+Pass P v = (c : ℕ) → c < v.count → (p : Place) → within (interval_at v c) p ≡ true → P p ≡ true
+
+-- the intervals of v became those of w: none shrank or left its chain, and all their places are old ones or lie in interval a
+pub record Grown (c d : ℕ → ℕ) (v w : Cover) (a : Interval) : Type 0 where
+  pub more : v.count ≤ w.count
+  pub same : (k : ℕ) → k < v.count → d k ≡ c k
+  pub wider : (k : ℕ) → k < v.count → (p : Place) → within (interval_at v k) p ≡ true → within (interval_at w k) p ≡ true
+  pub sound : (P : Place → Bool) → Pass P v → ((p : Place) → within a p ≡ true → P p ≡ true) → Pass P w
+
+-- an interval of chain h has every place of a
+pub record Held (chain : ℕ → ℕ) (v : Cover) (h : ℕ) (a : Interval) : Type 0 where
+  pub at : ℕ
+  pub below : at < v.count
+  pub key : chain at ≡ h
+  pub wide : (p : Place) → within a p ≡ true → within (interval_at v at) p ≡ true
+
+-- the interval was put into chain h
+pub record Put (chain : ℕ → ℕ) (v w : Cover) (h : ℕ) (a : Interval) : Type 0 where
+  pub chains : ℕ → ℕ
+  pub few : w.count ≤ v.count + 1
+  pub filed : Filed chains w
+  pub sizes : w.sizes ≡ v.sizes
+  pub grown : Grown chain chains v w a
+  pub held : Held chains w h a
+
+-- the interval was put into the chain of each block of 2^size indices that it meets
+pub record Entered (chain : ℕ → ℕ) (v w : Cover) (a : Interval) : Type 0 where
+  pub chains : ℕ → ℕ
+  pub size : ℕ
+  pub small : size < 34
+  pub flag : get_or w.sizes size false ≡ true
+  pub flags : (k : ℕ) → get_or v.sizes k false ≡ true → get_or w.sizes k false ≡ true
+  pub few : w.count ≤ v.count + 2
+  pub filed : Filed chains w
+  pub grown : Grown chain chains v w a
+  pub held : (j : ℕ) → a.first ≤ j → j < a.end → Held chains w (key_of a.backing size (j / 2 ^ size)) a
+
+-- an interval in the chain of the block of place p, of one of the sizes, has p
+pub record Entry (chain : ℕ → ℕ) (v : Cover) (p : Place) : Type 0 where
+  pub size : ℕ
+  pub small : size < 34
+  pub flag : get_or v.sizes size false ≡ true
+  pub at : ℕ
+  pub below : at < v.count
+  pub key : chain at ≡ key_of p.backing size (p.index / 2 ^ size)
+  pub has : within (interval_at v at) p ≡ true
+
+-- the intervals are those of the windows of the first m ranges
+pub record Covers (rs : List PageRange) (m : ℕ) (v : Cover) : Type 0 where
+  pub chain : ℕ → ℕ
+  pub few : v.count ≤ m + m
+  pub filed : Filed chain v
+  pub inside : (c : ℕ) → c < v.count → (p : Place) → within (interval_at v c) p ≡ true → all_below (outside rs p) m ≡ false
+  pub entry : (i : ℕ) (p : Place) → i < m → in_window rs p i ≡ true → Entry chain v p
+
+-- each place of the intervals is found
+pub record Indexed (v : Cover) : Type 0 where
+  pub chain : ℕ → ℕ
+  pub filed : Filed chain v
+  pub entry : (p : Place) → covered v p ≡ true → Entry chain v p
+
+-- an interval of places that are covered, which has place p; or none, where p is not covered
+abbrev pub Shown : Cover → Place → Option Interval → Type 0
+Shown v p None = covered v p ≡ false
+Shown v p (Some a) = (within a p ≡ true) × ((q : Place) → within a q ≡ true → covered v q ≡ true)
+
+-- no interval has place p, in the chain of its block of one of the first k sizes
+pub record Missed (v : Cover) (p : Place) (k : ℕ) : Type 0 where
+  pub none : (j : ℕ) → j < k → get_or v.sizes j false ≡ true → (chain : ℕ → ℕ) → Filed chain v
+      → (c : ℕ) → c < v.count → chain c ≡ key_of p.backing j (p.index / 2 ^ j) → within (interval_at v c) p ≡ false
+
+-- ---- the walk along a chain
+-- no interval of the chain from link k on passes the test
+pub record Sought (T : Interval → Bool → Type 0) (v : Cover) (h k : ℕ) : Type 0 where
+  pub low : k ≤ 1024
+  pub along : (chain : ℕ → ℕ) → Filed chain v → Along chain h v.chains.next v.count k
+  pub over : (chain : ℕ → ℕ) → Filed chain v → (c : ℕ) → k ≤ c → c < v.count → chain c ≡ h → T (interval_at v c) false
+
+-- above the last number with a property has none it
+last_over : (P : ℕ → Bool) (n c : ℕ) → last_below P n ≤ c → c < n → P c ≡ false
+unfolding last_below
+last_over P zero c l h = absurd (omega arith)
+last_over P (suc n) c l h =
+    by-test (P n)
+    (λ e. absurd (let k : suc n ≤ c = rw e at l in omega arith))
+    (λ e. by-eq c n (λ q. rw q e) (λ q. last_over P n c (rw e at l) (omega arith)))
+
+module _ (T : Interval → Bool → Type 0) (v : Cover) (h : ℕ) where
+  pub sought_start : h < 1024 → (chain : ℕ → ℕ) → Filed chain v → Sought T v h (get_or v.chains.heads h 0)
+  sought_start b chain F = record {
+    low = omega (arith, F.few, F.chained.heads h b, last_le (in_chain chain h) v.count);
+    along = λ d G. along_at d h v.chains.next v.count v.count (get_or v.chains.heads h 0) G.chained.next b (le_refl v.count) (G.chained.heads h b);
+    over = λ d G c l u e.
+        absurd (false≢true (sym (last_over (in_chain d h) v.count c (omega (arith, G.chained.heads h b)) u) ∙ eq-eqb (d c) h e));
+  }
+
+  -- at slot i
+  module _ (i : ℕ) (S : Sought T v h (i + 1)) (chain : ℕ → ℕ) (F : Filed chain v) where
+    pub sought_less : get_or v.chains.next i 0 ≤ i
+    sought_less = let q : i + 1 - 1 ≡ i = omega arith in let l = rw q at (along_less chain h v.chains.next v.count (i + 1) (S.along chain F) (omega arith)) in omega arith
+
+    pub sought_next : T (interval_at v i) false → Sought T v h (get_or v.chains.next i 0)
+    sought_next t = record {
+      low = omega (arith, S.low, sought_less);
+      along = λ d G. let q : i + 1 - 1 ≡ i = omega arith in rw q at (along_next d h v.chains.next v.count (i + 1) (S.along d G) (omega arith));
+      over = λ d G c l u e.
+          by-lt c i
+          (λ k.
+          let q : i + 1 - 1 ≡ i = omega arith in
+          let o = rw q at (onward d h v.chains.next v.count (i + 1) (S.along d G) (omega arith)) in
+          absurd (false≢true (sym (last_over (in_chain d h) i c (omega arith) k) ∙ eq-eqb (d c) h e)))
+          (λ k. by-eq c i (λ q. rw q t) (λ q. S.over d G c (omega arith) u e));
+    }
+
+    pub sought_hit : T (interval_at v i) true → First T chain v h (Some i)
+    sought_hit t =
+        let A = S.along chain F in
+        let q : i + 1 - 1 ≡ i = omega arith in
+        (omega (arith, A.low), eqb-true (chain i) h (rw q at (A.inside (omega arith))), t)
+
+  pub sought_end : Sought T v h 0 → (chain : ℕ → ℕ) → Filed chain v → First T chain v h None
+  sought_end S chain F = λ c u e. S.over chain F c (omega arith) u e
+
+-- ---- blocks
+-- indices less than a block apart lie in one block, or in two that adjoin
+pub blocks_near : (a b k : ℕ) → a ≤ b → (b - a) / 2 ^ k ≡ 0 → b / 2 ^ k ≤ a / 2 ^ k + 1
+blocks_near a b k l z =
+    let u : (b - a) / 2 ^ k < 1 = omega arith in
+    let v = (div-lt_iff_lt-mul (pow_pos k)).0 u in
+    let w : b ≤ a + 2 ^ k = omega arith in
+    omega (arith, shr_mono k w, add-div_right a (pow_pos k))
+
+-- the size of blocks, by the logarithm of how far apart they are
+pub size_near : (a b k : ℕ) → a ≤ b → b < 8589934592 → 2 ^ k ≤ b - a → b - a < 2 * 2 ^ k → (k + 1 ≤ 33) × (b / 2 ^ (k + 1) ≤ a / 2 ^ (k + 1) + 1)
+size_near a b k l m p q =
+    let e : 2 ^ (k + 1) ≡ 2 * 2 ^ k = rw add-one (pow-succ' 2 k) in
+    let few : k + 1 ≤ 33 = by-lt k 33 (λ h. omega arith) (λ h. absurd (let r : 2 ^ 33 ≤ 2 ^ k = pow-le-pow_right (omega arith) h in omega arith)) in
+    let z : (b - a) / 2 ^ (k + 1) ≡ 0 = div-eq_of_lt (omega arith) in
+    (few, blocks_near a b (k + 1) l z)
+
+-- ---- places of intervals
+pub record Within (a : Interval) (p : Place) : Type 0 where
+  pub backing : p.backing ≡ a.backing
+  pub first : a.first ≤ p.index
+  pub end : p.index < a.end
+
+pub is_within : (a : Interval) (p : Place) → within a p ≡ true → Within a p
+is_within a p e =
+    let o = and_right (eqb p.backing a.backing) (leb a.first p.index && ltb p.index a.end) e in
+    record {
+      backing = eqb-true p.backing a.backing (and_left (eqb p.backing a.backing) (leb a.first p.index && ltb p.index a.end) e);
+      first = leb-true a.first p.index (and_left (leb a.first p.index) (ltb p.index a.end) o);
+      end = ltb-true p.index a.end (and_right (leb a.first p.index) (ltb p.index a.end) o);
+    }
+
+pub by_within : (a : Interval) (p : Place) → Within a p → within a p ≡ true
+by_within a p W = rw (eq-eqb p.backing a.backing W.backing, le-leb a.first p.index W.first, lt-ltb p.index a.end W.end)
+
+module _ (v : Cover) (p : Place) where
+  pub covered_by : (c : ℕ) → c < v.count → within (interval_at v c) p ≡ true → covered v p ≡ true
+  covered_by c h e = ap not (sym (below_fails (λ c. not (within (interval_at v c) p)) v.count c h (ap not e)))
+
+  pub covered_none : ((c : ℕ) → c < v.count → within (interval_at v c) p ≡ false) → covered v p ≡ false
+  covered_none f = ap not (at_below (λ c. not (within (interval_at v c) p)) v.count (λ c h. ap not (f c h)))
+
+-- what is shown is whether the place is covered
+pub shown_covered : (v : Cover) (p : Place) (o : Option Interval) → Shown v p o → covered v p ≡ is_some o
+shown_covered v p None S = S
+shown_covered v p (Some a) S = S.1 p S.0
+
+-- ---- intervals that overlap are one
+module _ (a b : Interval) (t : meets a b ≡ true) where
+  same_backing : a.backing ≡ b.backing
+  same_backing = eqb-true a.backing b.backing (and_left (eqb a.backing b.backing) (ltb a.first b.end && ltb b.first a.end) t)
+
+  over_left : a.first < b.end
+  over_left = ltb-true a.first b.end (and_left (ltb a.first b.end) (ltb b.first a.end) (and_right (eqb a.backing b.backing) (ltb a.first b.end && ltb b.first a.end) t))
+
+  over_right : b.first < a.end
+  over_right = ltb-true b.first a.end (and_right (ltb a.first b.end) (ltb b.first a.end) (and_right (eqb a.backing b.backing) (ltb a.first b.end && ltb b.first a.end) t))
+
+  pub united_left : (p : Place) → within a p ≡ true → within (united a b) p ≡ true
+  united_left p e = let W = is_within a p e in by_within (united a b) p (record { backing = W.backing; first = omega (arith, W.first); end = omega (arith, W.end) })
+
+  pub united_right : (p : Place) → within b p ≡ true → within (united a b) p ≡ true
+  united_right p e =
+      let W = is_within b p e in
+      by_within (united a b) p (record { backing = W.backing ∙ sym same_backing; first = omega (arith, W.first); end = omega (arith, W.end) })
+
+  pub united_either : (P : Place → Bool) (p : Place) → within (united a b) p ≡ true → (within a p ≡ true → P p ≡ true) → (within b p ≡ true → P p ≡ true) → P p ≡ true
+  united_either P p e l r =
+      let W = is_within (united a b) p e in
+      let m = W.first in
+      let n = W.end in
+      let x = over_left in
+      let y = over_right in
+      by-lt p.index a.first
+      (λ h. r (by_within b p (record { backing = W.backing ∙ same_backing; first = omega arith; end = omega arith })))
+      (λ h. by-lt p.index a.end
+      (λ k. l (by_within a p (record { backing = W.backing; first = h; end = k })))
+      (λ k. r (by_within b p (record { backing = W.backing ∙ same_backing; first = omega arith; end = omega arith }))))
+
+-- ---- an interval is put into a chain
+module _ (chain : ℕ → ℕ) (v : Cover) (h : ℕ) (a : Interval) (F : Filed chain v) where
+  -- interval i of the chain takes it in
+  module _ (i : ℕ) (l : i < v.count) (e : chain i ≡ h) (t : meets (interval_at v i) a ≡ true) where
+    abbrev widened : Cover
+    widened = record { intervals = set v.intervals i (united (interval_at v i) a); count = v.count; chains = v.chains; sizes = v.sizes }
+
+    here : interval_at widened i ≡ united (interval_at v i) a
+    here = get_or-set_same v.intervals i (united (interval_at v i) a) (record { backing = 0; first = 0; end = 0 }) (omega (arith, F.few, F.intervals))
+
+    other : (k : ℕ) → (k ≡ i → ⊥) → interval_at widened k ≡ interval_at v k
+    other k n = get_or-set_other v.intervals i k (united (interval_at v i) a) (record { backing = 0; first = 0; end = 0 }) n
+
+    pub put_united : Put chain v widened h a
+    put_united = record {
+      chains = chain;
+      few = omega arith;
+      filed = record { few = F.few; intervals = simp length-set F.intervals; heads = F.heads; next = F.next; sizes = F.sizes; chained = F.chained };
+      sizes = refl;
+      grown = record {
+        more = le_refl v.count;
+        same = λ k u. refl;
+        wider = λ k u p w.
+            by-eq k i
+            (λ q. rw (q, here) (united_left (interval_at v i) a t p (rw q at w)))
+            (λ q. rw (other k q) w);
+        sound = λ P old new k u p w.
+            by-eq k i
+            (λ q. united_either (interval_at v i) a t P p (rw (q, here) at w) (old i l p) (new p))
+            (λ q. old k u p (rw (other k q) at w));
+      };
+      held = record { at = i; below = l; key = e; wide = λ p w. rw here (united_right (interval_at v i) a t p w) };
+    }
+
+  -- it is a new one
+  module _ (b : v.count < 1024) (u : h < 1024) where
+    abbrev longer : Cover
+    longer = record {
+      intervals = set v.intervals v.count a;
+      count = v.count + 1;
+      chains = record { heads = set v.chains.heads h (v.count + 1); next = set v.chains.next v.count (get_or v.chains.heads h 0) };
+      sizes = v.sizes;
+    }
+
+    abbrev after : ℕ → ℕ
+    after k = pick (eqb k v.count) h (chain k)
+
+    last : after v.count ≡ h
+    last = rw (eq-eqb v.count v.count refl)
+
+    before : (k : ℕ) → k < v.count → after k ≡ chain k
+    before k l = rw (ne_eqb k v.count (λ e. omega arith))
+
+    new_one : interval_at longer v.count ≡ a
+    new_one = get_or-set_same v.intervals v.count a (record { backing = 0; first = 0; end = 0 }) (omega (arith, F.intervals))
+
+    old_one : (k : ℕ) → (k ≡ v.count → ⊥) → interval_at longer k ≡ interval_at v k
+    old_one k n = get_or-set_other v.intervals v.count k a (record { backing = 0; first = 0; end = 0 }) n
+
+    pub put_new : Put chain v longer h a
+    put_new = record {
+      chains = after;
+      few = le_refl (v.count + 1);
+      filed = record {
+        few = omega arith;
+        intervals = simp length-set F.intervals;
+        heads = simp length-set F.heads;
+        next = simp length-set F.next;
+        sizes = F.sizes;
+        chained =
+            let C = chained_alike chain after v.count v.chains.heads v.chains.next (λ k l. sym (before k l)) F.chained in
+            rw last at (chained_next after v.chains.heads v.chains.next v.count C F.heads (omega (arith, F.next)) (omega (arith, last)));
+      };
+      sizes = refl;
+      grown = record {
+        more = omega arith;
+        same = before;
+        wider = λ k l p w. rw (old_one k (λ e. omega arith)) w;
+        sound = λ P old new k l p w.
+            by-eq k v.count
+            (λ q. new p (rw (q, new_one) at w))
+            (λ q. old k (omega arith) p (rw (old_one k q) at w));
+      };
+      held = record { at = v.count; below = omega arith; key = last; wide = λ p w. rw new_one w };
+    }
+
+-- ---- twice
+module _ (c d : ℕ → ℕ) (v w : Cover) (a : Interval) (G : Grown c d v w a) where
+  pub grown_on : (e : ℕ → ℕ) (x : Cover) → Grown d e w x a → Grown c e v x a
+  grown_on e x H = record {
+    more = omega (arith, G.more, H.more);
+    same = λ k l. H.same k (omega (arith, G.more)) ∙ G.same k l;
+    wider = λ k l p u. H.wider k (omega (arith, G.more)) p (G.wider k l p u);
+    sound = λ P old new. H.sound P (G.sound P old new) new;
+  }
+
+  pub held_on : (h : ℕ) → Held c v h a → Held d w h a
+  held_on h H = record {
+    at = H.at;
+    below = omega (arith, G.more, H.below);
+    key = G.same H.at H.below ∙ H.key;
+    wide = λ p u. G.wider H.at H.below p (H.wide p u);
+  }
+
+-- ---- the blocks of an interval
+held_at : (chain : ℕ → ℕ) (v : Cover) (h g : ℕ) (a : Interval) → h ≡ g → Held chain v h a → Held chain v g a
+held_at chain v h g a e H = record { at = H.at; below = H.below; key = H.key ∙ e; wide = H.wide }
+
+-- a size is marked
+abbrev pub marked : Cover → ℕ → Cover
+marked v k = record { intervals = v.intervals; count = v.count; chains = v.chains; sizes = set v.sizes k true }
+
+module _ (chain : ℕ → ℕ) (v : Cover) (k : ℕ) (F : Filed chain v) where
+  pub filed_marked : Filed chain (marked v k)
+  filed_marked = record { few = F.few; intervals = F.intervals; heads = F.heads; next = F.next; sizes = simp length-set F.sizes; chained = F.chained }
+
+  grown_unmarked : (d : ℕ → ℕ) (w : Cover) (a : Interval) → Grown chain d (marked v k) w a → Grown chain d v w a
+  grown_unmarked d w a G = record { more = G.more; same = G.same; wider = G.wider; sound = G.sound }
+
+  module _ (b : k < 34) (x : Cover) (e : x.sizes ≡ set v.sizes k true) where
+    flag_marked : get_or x.sizes k false ≡ true
+    flag_marked = ap (λ l. get_or l k false) e ∙ get_or-set_same v.sizes k true false (omega (arith, F.sizes))
+
+    flags_marked : (j : ℕ) → get_or v.sizes j false ≡ true → get_or x.sizes j false ≡ true
+    flags_marked j t = by-eq j k (λ q. rw q flag_marked) (λ q. ap (λ l. get_or l j false) e ∙ get_or-set_other v.sizes k j true false q ∙ t)
+
+  module _ (b : k < 34) (w : Cover) (a : Interval) (h : ℕ) (e : h ≡ key_of a.backing k (a.first / 2 ^ k)) (P : Put chain (marked v k) w h a) where
+    -- it lies in one block
+    pub entered_one : (a.end - 1) / 2 ^ k ≤ a.first / 2 ^ k → Entered chain v w a
+    entered_one d = record {
+      chains = P.chains;
+      size = k;
+      small = b;
+      flag = flag_marked b w P.sizes;
+      flags = flags_marked b w P.sizes;
+      few = omega (arith, P.few);
+      filed = P.filed;
+      grown = grown_unmarked P.chains w a P.grown;
+      held = λ j u l.
+          let q : a.first / 2 ^ k ≡ j / 2 ^ k = let m : j ≤ a.end - 1 = omega arith in omega (arith, shr_mono k u, shr_mono k m) in
+          held_at P.chains w h _ a (e ∙ ap (key_of a.backing k) q) P.held;
+    }
+
+    -- it meets two
+    pub entered_two : (a.end - 1) / 2 ^ k ≤ a.first / 2 ^ k + 1 → (x : Cover) (g : ℕ) → g ≡ key_of a.backing k ((a.end - 1) / 2 ^ k) → Put P.chains w x g a → Entered chain v x a
+    entered_two n x g d Q = record {
+      chains = Q.chains;
+      size = k;
+      small = b;
+      flag = flag_marked b x (Q.sizes ∙ P.sizes);
+      flags = flags_marked b x (Q.sizes ∙ P.sizes);
+      few = omega (arith, P.few, Q.few);
+      filed = Q.filed;
+      grown = grown_on chain P.chains v w a (grown_unmarked P.chains w a P.grown) Q.chains x Q.grown;
+      held = λ j u l.
+          by-eq (a.first / 2 ^ k) (j / 2 ^ k)
+          (λ q. held_at Q.chains x h _ a (e ∙ ap (key_of a.backing k) q) (held_on P.chains Q.chains w x a Q.grown h P.held))
+          (λ q.
+          let r : (a.end - 1) / 2 ^ k ≡ j / 2 ^ k = let m : j ≤ a.end - 1 = omega arith in omega (arith, shr_mono k u, shr_mono k m) in
+          held_at Q.chains x g _ a (d ∙ ap (key_of a.backing k) r) Q.held);
+    }
+
+-- ---- one range more
+still_false : (P : ℕ → Bool) (m : ℕ) → all_below P m ≡ false → all_below P (m + 1) ≡ false
+unfolding all_below
+still_false P m e = rw (add-one, e) (none_both (P m))
+
+-- where not all numbers pass, one does not
+fails_below : (P : ℕ → Bool) (m : ℕ) → all_below P m ≡ false → (i : ℕ) × (i < m) × (P i ≡ false)
+unfolding all_below
+fails_below P zero h = absurd (false≢true (sym h))
+fails_below P (suc m) h =
+    by-test (P m)
+    (λ e. let r = fails_below P m (rw e at h) in (r.0, omega (arith, r.1), r.2))
+    (λ e. (m, omega arith, e))
+
+pub covers_none : (rs : List PageRange) (v : Cover) → v.count ≡ 0 → length v.intervals ≡ 1024 → length v.sizes ≡ 34 → v.chains.heads ≡ replicate 1024 0 → v.chains.next ≡ replicate 1024 0
+    → Covers rs 0 v
+covers_none rs v e l m h n = record {
+  chain = chain_by rs;
+  few = omega arith;
+  filed = record {
+    few = omega arith;
+    intervals = l;
+    heads = ap length h ∙ length-replicate {A = ℕ} 1024 0;
+    next = ap length n ∙ length-replicate {A = ℕ} 1024 0;
+    sizes = m;
+    chained = rw e (chains_none rs v.chains h);
+  };
+  inside = λ c u. absurd (omega arith);
+  entry = λ i p u. absurd (omega arith);
+}
+
+module _ (rs : List PageRange) (m : ℕ) (v : Cover) (C : Covers rs m v) where
+  -- its window is empty
+  pub covers_skip : (get_or rs m zero_range).length ≡ 0 → Covers rs (m + 1) v
+  covers_skip e = record {
+    chain = C.chain;
+    few = omega (arith, C.few);
+    filed = C.filed;
+    inside = λ c u p w. still_false (outside rs p) m (C.inside c u p w);
+    entry = λ i p u t. by-eq i m (λ q. absurd (none p (rw q at t))) (λ q. C.entry i p (omega arith) t);
+  }
+    where
+      none : (p : Place) → in_window rs p m ≡ true → ⊥
+      none p t =
+          let r : PageRange = get_or rs m zero_range in
+          let o = and_right (eqb p.backing (number_of r.backing)) (leb r.offset p.index && ltb p.index (r.offset + r.length)) t in
+          let l = leb-true r.offset p.index (and_left (leb r.offset p.index) (ltb p.index (r.offset + r.length)) o) in
+          let h = ltb-true p.index (r.offset + r.length) (and_right (leb r.offset p.index) (ltb p.index (r.offset + r.length)) o) in
+          omega arith
+
+  -- its window is entered
+  module _ (w : Cover) (a : Interval) (e : (p : Place) → within a p ≡ in_window rs p m) (E : Entered C.chain v w a) where
+    passes : Pass (λ p. not (all_below (outside rs p) (m + 1))) w
+    passes = E.grown.sound (λ p. not (all_below (outside rs p) (m + 1)))
+        (λ c u p w. ap not (still_false (outside rs p) m (C.inside c u p w)))
+        (λ p w. ap not (sym (below_fails (outside rs p) (m + 1) m (omega arith) (ap not (sym (e p) ∙ w)))))
+
+    entries : (i : ℕ) (p : Place) → i < m + 1 → in_window rs p i ≡ true → Entry E.chains w p
+    entries i p u t =
+        by-eq i m
+        (λ q. here (rw q at t))
+        (λ q.
+        let O = C.entry i p (omega arith) t in
+        record {
+          size = O.size;
+          small = O.small;
+          flag = E.flags O.size O.flag;
+          at = O.at;
+          below = omega (arith, E.grown.more, O.below);
+          key = E.grown.same O.at O.below ∙ O.key;
+          has = E.grown.wider O.at O.below p O.has;
+        })
+      where
+        here : in_window rs p m ≡ true → Entry E.chains w p
+        here t =
+            let x = e p ∙ t in
+            let W = is_within a p x in
+            let H = E.held p.index W.first W.end in
+            record {
+              size = E.size;
+              small = E.small;
+              flag = E.flag;
+              at = H.at;
+              below = H.below;
+              key = H.key ∙ ap (λ (b : ℕ). key_of b E.size (p.index / 2 ^ E.size)) (sym W.backing);
+              has = H.wide p x;
+            }
+
+    pub covers_next : Covers rs (m + 1) w
+    covers_next = record {
+      chain = E.chains;
+      few = omega (arith, C.few, E.few);
+      filed = E.filed;
+      inside = λ c u p x. not-true (all_below (outside rs p) (m + 1)) (passes c u p x);
+      entry = entries;
+    }
+
+  -- ---- what all intervals say
+  inside_false : (p : Place) → all_below (outside rs p) m ≡ true → covered v p ≡ false
+  inside_false p t =
+      covered_none v p (λ c u.
+      by-test (within (interval_at v c) p)
+      (λ w. absurd (false≢true (sym (C.inside c u p w) ∙ t)))
+      (λ w. w))
+
+  inside_true : (p : Place) → all_below (outside rs p) m ≡ false → Entry C.chain v p
+  inside_true p t =
+      let r = fails_below (outside rs p) m t in
+      by-test (in_window rs p r.0) (λ e. C.entry r.0 p r.1 e) (λ e. absurd (false≢true (sym r.2 ∙ ap not e)))
+
+  pub covers_exact : (p : Place) → covered v p ≡ named p.backing p.index (ranges_of (take m rs))
+  covers_exact p =
+      by-test (all_below (outside rs p) m)
+      (λ t. inside_false p t ∙ sym (windows_told rs p m ∙ ap not t))
+      (λ t. let E = inside_true p t in covered_by v p E.at E.below E.has ∙ sym (windows_told rs p m ∙ ap not t))
+
+  pub covers_indexed : Indexed v
+  covers_indexed = record {
+    chain = C.chain;
+    filed = C.filed;
+    entry = λ p t.
+        by-test (all_below (outside rs p) m)
+        (λ q. absurd (false≢true (sym (inside_false p q) ∙ t)))
+        (inside_true p);
+  }
+
+-- ---- all sizes
+module _ (v : Cover) (p : Place) where
+  pub missed_none : Missed v p 0
+  missed_none = record { none = λ j u. absurd (omega arith) }
+
+  module _ (k : ℕ) (M : Missed v p k) where
+    -- no interval is of this size
+    pub missed_skip : get_or v.sizes k false ≡ false → Missed v p (k + 1)
+    missed_skip e = record {
+      none = λ j u t.
+          by-eq j k
+          (λ q. absurd (false≢true (sym e ∙ rw q at t)))
+          (λ q. M.none j (omega arith) t);
+    }
+
+    -- none has it
+    pub missed_next : ((chain : ℕ → ℕ) → Filed chain v → (c : ℕ) → c < v.count → chain c ≡ key_of p.backing k (p.index / 2 ^ k) → within (interval_at v c) p ≡ false)
+        → Missed v p (k + 1)
+    missed_next f = record { none = λ j u t. by-eq j k (λ q. rw q f) (λ q. M.none j (omega arith) t) }
+
+  module _ (I : Indexed v) where
+    pub shown_none : Missed v p 34 → Shown v p None
+    shown_none M =
+        by-test (covered v p)
+        (λ t.
+        let E = I.entry p t in
+        absurd (false≢true (sym (M.none E.size E.small E.flag I.chain I.filed E.at E.below E.key) ∙ E.has)))
+        (λ t. t)
+
+    pub shown_some : (c : ℕ) → c < v.count → within (interval_at v c) p ≡ true → Shown v p (Some (interval_at v c))
+    shown_some c u e = (e, λ q w. covered_by v q c u w)
