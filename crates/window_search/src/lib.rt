@@ -115,7 +115,7 @@ impl Windows<'_> {
     }
 
     // The first slot of the chain of a backing.
-    fn first(&self, backing: u32) -> Option<usize>
+    pub fn first(&self, backing: u32) -> Option<usize>
         ensures head { link_of result ≡ get_or self.now.chains.now.heads (backing % 1024) 0 }
         ensures low { link_of result ≤ self.now.count }
     {
