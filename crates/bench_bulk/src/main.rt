@@ -2,172 +2,143 @@
 // buffer has 1 MiB, so that the program runs with a stack of 8 MiB; bench/run lends it a larger one.
 #![tactic(auto)]
 
-ghost use Rattle.std.specs.Prelude.{◌≡◌, ◌+◌, ◌*◌, ◌≤◌, ◌<◌, length};
+ghost use Rattle.std.specs.Prelude.{◌≡◌, ◌≤◌, ◌<◌, length};
 
+use fills::Parts;
 use store::Store;
+use timing::Mode;
 
-// ---- works by number
-fn name(work: u8) -> bool {
-    match work {
-        0 => io::write_all(1, b"write_all"),
-        1 => io::write_all(1, b"read_all"),
-        2 => io::write_all(1, b"write_pages"),
-        3 => io::write_all(1, b"read_pages"),
-        4 => io::write_all(1, b"shift"),
-        _ => io::write_all(1, b"shift_new"),
-    }
+// ---- works
+#[derive(Clone, Copy)]
+enum Work {
+    WriteAll,
+    ReadAll,
+    WritePages,
+    ReadPages,
+    Shift,
+    ShiftNew,
 }
 
-fn run(work: u8, s: Store, pool: &mut [u8], buf: &mut [u8], turns: usize) -> usize
-    requires { length buf.old ≤ 4194304 }
-{
-    let n = buf.len() / 2;
-    match work {
-        0 => works::bulk_written(s, pool, buf, turns),
-        1 => works::bulk_read(s, pool, buf, turns),
-        2 => works::pages_written(s, pool, buf, turns),
-        3 => works::pages_read(s, pool, buf, turns),
-        4 => works::shifted(s, pool, 1, n, turns),
-        _ => works::shifted(s, pool, 30, 524288, turns),
+impl Work {
+    fn name(self) -> &'static str {
+        match self {
+            Work::WriteAll => "write_all",
+            Work::ReadAll => "read_all",
+            Work::WritePages => "write_pages",
+            Work::ReadPages => "read_pages",
+            Work::Shift => "shift",
+            Work::ShiftNew => "shift_new",
+        }
+    }
+
+    // How many of n turns went as they should.
+    fn run(self, s: &Store, pool: &mut [u8], buf: &mut [u8], n: usize) -> usize {
+        match self {
+            Work::WriteAll => works::bulk_written(s, pool, buf, n),
+            Work::ReadAll => works::bulk_read(s, pool, buf, n),
+            Work::WritePages => works::pages_written(s, pool, buf, n),
+            Work::ReadPages => works::pages_read(s, pool, buf, n),
+            Work::Shift => works::shifted(s, pool, 1, buf.len() / 2, n),
+            Work::ShiftNew => works::shifted(s, pool, 30, 524288, n),
+        }
     }
 }
 
 // ---- what was written is read
-fn pattern(i: usize, factor: usize) -> u8
-    requires { (i ≤ 4194304) × (factor ≤ 7) }
-{
-    if factor == 0 {
-        return 0;
-    }
-    (i * 7 % 251) as u8
+fn pattern(i: usize) -> u8 {
+    (i % 251 * 7 % 251) as u8
 }
 
-fn patterned(buf: &mut [u8], factor: usize)
-    requires { (length buf.old ≤ 4194304) × (factor ≤ 7) }
-{
-    let mut i: usize = 0;
-    while i < buf.len() {
-        buf[i] = pattern(i, factor);
-        i += 1;
+fn patterned(buf: &mut [u8]) {
+    for (i, b) in buf.iter_mut().enumerate() {
+        *b = pattern(i);
     }
 }
 
-fn same(buf: &[u8]) -> bool
-    requires { length buf.now ≤ 4194304 }
-{
-    let mut i: usize = 0;
-    while i < buf.len() {
-        if buf[i] != pattern(i, 7) {
-            return false;
-        }
-        i += 1;
-    }
-    true
-}
-
-// Written in one call, read page by page.
-fn read_back(s: Store, pool: &mut [u8], buf: &mut [u8]) -> usize
-    requires { length buf.old ≤ 4194304 }
-{
-    patterned(buf, 7);
-    works::bulk_written(s, pool, buf, 1);
-    patterned(buf, 0);
-    works::pages_read(s, pool, buf, 1);
-    works::one_if(same(buf))
+fn same(buf: &[u8]) -> bool {
+    buf.iter().enumerate().all(|(i, b)| *b == pattern(i))
 }
 
 // ---- lines
-fn timed(work: u8, s: Store, pool: &mut [u8], buf: &mut [u8], rt: HostRuntime)
-    requires { length buf.old ≤ 4194304 }
-{
-    let mut turns: usize = 1;
-    while turns < 1000000000 {
-        let a = timing::micros(rt);
-        let right = run(work, s, pool, buf, turns);
-        let b = timing::micros(rt);
-        let e = timing::between(a, b);
-        if 20000 <= e {
-            timing::time_of_one(right, turns, e);
-            return;
-        }
-        turns *= 2;
-    }
-}
-
-fn outcome(work: u8, s: Store, pool: &mut [u8], buf: &mut [u8], clock: bool, rt: HostRuntime)
-    requires { length buf.old ≤ 4194304 }
-{
-    if clock {
-        timed(work, s, pool, buf, rt);
-        return;
-    }
-    timing::field(run(work, s, pool, buf, 3) as u64);
-}
-
-fn measure(work: u8, s: Store, pool: &mut [u8], buf: &mut [u8], clock: bool, rt: HostRuntime)
-    requires { length buf.old ≤ 4194304 }
-{
-    name(work);
-    let n = calls::counts(s);
-    timing::field(n.frames as u64);
-    timing::field(n.ranges as u64);
-    outcome(work, s, pool, buf, clock, rt);
-    io::write_all(1, b"\n");
-}
-
-fn measured(
-    first: u8,
-    end: u8,
-    s: Store,
-    pool: &mut [u8],
-    buf: &mut [u8],
-    clock: bool,
+// What every line is made with: the page memory, the buffer, how a work is measured, and the runtime.
+#[derive(Drop)]
+struct Bulk<'a> {
+    pool: &'a mut [u8],
+    buf: &'a mut [u8],
+    mode: Mode,
     rt: HostRuntime,
-)
-    requires { length buf.old ≤ 4194304 }
-{
-    let mut k: u8 = first;
-    while k < end {
-        measure(k, s, pool, buf, clock, rt);
-        k += 1;
+    ghost fits: { length buf.now ≤ 4194304 },
+}
+
+impl Bulk<'_> {
+    fn measure(&mut self, work: Work, s: &Store) {
+        io::write_all(1, work.name().as_bytes());
+        let n = calls::counts(*s);
+        timing::field(n.frames as u64);
+        timing::field(n.ranges as u64);
+        self.mode
+            .outcome(self.rt, |turns| work.run(s, self.pool, self.buf, turns));
+        io::write_all(1, b"\n");
     }
-}
 
-// ---- records as long as the buffer, or half as long, in m ranges that adjoin
-fn whole(pool: &mut [u8], buf: &mut [u8], m: usize, clock: bool, rt: HostRuntime)
-    requires { (length buf.old ≤ 4194304) × (0 < m) × (m ≤ 512) }
-{
-    let s = fills::empty();
-    let t = fills::adjoining(s, pool, 0, buf.len() / 4096, m);
-    io::write_all(1, b"# read back");
-    timing::field(read_back(t, pool, buf) as u64);
-    io::write_all(1, b"\n");
-    measured(0, 4, t, pool, buf, clock, rt);
-}
+    // Written in one call, read page by page.
+    fn read_back(&mut self, s: &Store) -> bool {
+        patterned(self.buf);
+        works::bulk_written(s, self.pool, self.buf, 1);
+        self.buf.fill(0);
+        works::pages_read(s, self.pool, self.buf, 1);
+        same(self.buf)
+    }
 
-// Copied to record 1, which is present; and without that 512 KiB to record 30, which has no page: each page added needs two slots, so 2 MiB is refused.
-fn halves(pool: &mut [u8], buf: &mut [u8], m: usize, clock: bool, rt: HostRuntime)
-    requires { (length buf.old ≤ 4194304) × (0 < m) × (m ≤ 512) }
-{
-    let n = buf.len() / 8192;
-    let s = fills::empty();
-    let t = fills::adjoining(s, pool, 0, n, m);
-    let u = fills::adjoining(t, pool, 1, n, m);
-    measure(4, u, pool, buf, clock, rt);
-    measure(5, t, pool, buf, clock, rt);
-}
+    // ---- records as long as the buffer, or half as long, in ranges that adjoin
+    fn whole(&mut self, ranges: usize)
+        requires { 0 < ranges }
+    {
+        let pages = self.buf.len() / 4096;
+        let s = fills::adjoining(fills::empty(), self.pool, 0, Parts { pages, ranges });
+        io::write_all(1, b"# read back");
+        timing::field(u64::from(self.read_back(&s)));
+        io::write_all(1, b"\n");
+        for work in [
+            Work::WriteAll,
+            Work::ReadAll,
+            Work::WritePages,
+            Work::ReadPages,
+        ] {
+            self.measure(work, &s);
+        }
+    }
 
-fn both(pool: &mut [u8], buf: &mut [u8], m: usize, clock: bool, rt: HostRuntime)
-    requires { (length buf.old ≤ 4194304) × (0 < m) × (m ≤ 255) }
-{
-    whole(pool, buf, 2 * m, clock, rt);
-    halves(pool, buf, m, clock, rt);
+    // Copied to record 1, which is present; and without that 512 KiB to record 30, which has no page: each page added needs two slots, so 2 MiB is refused.
+    fn halves(&mut self, ranges: usize)
+        requires { 0 < ranges }
+    {
+        let pages = self.buf.len() / 8192;
+        let parts = Parts { pages, ranges };
+        let one = fills::adjoining(fills::empty(), self.pool, 0, parts);
+        let two = fills::adjoining(one, self.pool, 1, parts);
+        self.measure(Work::Shift, &two);
+        self.measure(Work::ShiftNew, &one);
+    }
+
+    fn both(&mut self, ranges: usize)
+        requires { (0 < ranges) × (ranges ≤ 255) }
+    {
+        self.whole(2 * ranges);
+        self.halves(ranges);
+    }
 }
 
 // 1 MiB in 8 and 64 ranges.
 fn tried(pool: &mut [u8], buf: &mut [u8; 1048576], rt: HostRuntime) {
-    both(pool, buf, 4, false, rt);
-    both(pool, buf, 32, false, rt);
+    let mut bulk = Bulk {
+        pool,
+        buf,
+        mode: Mode::Turns(3),
+        rt,
+    };
+    bulk.both(4);
+    bulk.both(32);
 }
 
 #[inline(never)]
@@ -177,53 +148,44 @@ fn small(pool: &mut [u8], rt: HostRuntime) {
 }
 
 // 4 MiB in 8, 40 and 510 ranges.
-fn timed_all(pool: &mut [u8], buf: &mut [u8], rt: HostRuntime)
+fn timed(pool: &mut [u8], buf: &mut [u8], rt: HostRuntime)
     requires { length buf.old ≤ 4194304 }
 {
-    both(pool, buf, 4, true, rt);
-    both(pool, buf, 20, true, rt);
-    both(pool, buf, 255, true, rt);
-}
-
-// The same from byte k of the buffer on.
-fn at_start(pool: &mut [u8], buf: &mut [u8], k: usize, rt: HostRuntime)
-    requires { (length buf.old ≡ 4194352) × (k ≤ 48) }
-{
-    let e = k + 4194304;
-    timed_all(pool, &mut buf[k..e], rt);
+    let mut bulk = Bulk {
+        pool,
+        buf,
+        mode: Mode::Time,
+        rt,
+    };
+    bulk.both(4);
+    bulk.both(20);
+    bulk.both(255);
 }
 
 // Four starts of the buffer, 16 bytes apart: what a copy costs depends on how the bytes of the buffer and those of a frame lie to each other in a line of the cache.
-fn at_four_starts(pool: &mut [u8], buf: &mut [u8], rt: HostRuntime)
-    requires { length buf.old ≡ 4194352 }
-{
-    at_start(pool, buf, 0, rt);
-    at_start(pool, buf, 16, rt);
-    at_start(pool, buf, 32, rt);
-    at_start(pool, buf, 48, rt);
-}
-
-fn with_buffer(pool: &mut [u8], buf: &mut [u8; 4194352], rt: HostRuntime) {
-    at_four_starts(pool, buf, rt);
+fn at_four_starts(pool: &mut [u8], buf: &mut [u8; 4194352], rt: HostRuntime) {
+    for i in 0..4 {
+        let k = 16 * i;
+        timed(pool, &mut buf[k..k + 4194304], rt);
+    }
 }
 
 // The buffers stand in frames of functions of their own, which are not compiled into `main`: its frame would burst. One call of itself for each round.
 #[inline(never)]
 fn large(pool: &mut [u8], rounds: u8, rt: HostRuntime) {
     let mut buf = [0u8; 4194352];
-    with_buffer(pool, &mut buf, rt);
+    at_four_starts(pool, &mut buf, rt);
     if 1 < rounds {
         large(pool, rounds - 1, rt);
     }
 }
 
-// Input `1` is one round.
+// Input `1` is one round. A function of its own: what is lent here is any array, and a proof in `main` would write out the zeros.
 fn lent(pool: &mut [u8; 4194304], rounds: u8, rt: HostRuntime) {
-    if rounds == 0 {
-        small(pool, rt);
-        return;
+    match rounds {
+        0 => small(pool, rt),
+        _ => large(pool, rounds, rt),
     }
-    large(pool, rounds, rt);
 }
 
 fn main(rt: HostRuntime) {

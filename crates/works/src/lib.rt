@@ -1,386 +1,237 @@
 // WHAT IS MEASURED, turn after turn, by the public calls alone. Each function says how many turns went as they should. A turn that changes the store
-// starts from the same store as the turn before: what it leaves is dropped. Record 30 has no page; where it takes no part, its name comes and goes
-// (bit 30 of `live`), so that no turn is like the one before.
+// starts from the same store as the turn before: what it leaves is dropped. Record 30 has no page; where it takes no part, its name comes and goes, so that
+// no turn is like the one before.
 #![tactic(auto)]
 
-ghost use Rattle.std.specs.Prelude.{◌+◌, ◌*◌, ◌≤◌, ◌<◌, length};
+ghost use Rattle.std.specs.Prelude.{◌*◌, ◌≤◌, ◌<◌, length};
 
+use fills::{Pages, Parts};
 use look::State;
 use page::PageNumber;
 use store::Store;
 
-pub fn one_if(right: bool) -> usize
-    ensures { result ≤ 1 }
+// The bits of `live` that change from turn to turn: none, or that of record 30.
+const STEADY: u32 = 0;
+
+const BLINKING: u32 = 1 << 30;
+
+// Not compiled into the turns: there the store stays in one piece, and a call takes it as it lies, with no copy made for the call.
+#[inline(never)]
+fn toggle(s: &mut Store, change: u32) {
+    s.live ^= change;
+}
+
+// How many of n turns, numbered from 0, went as they should.
+fn turns<F: FnMut(&Store, usize) -> bool>(s: &Store, change: u32, n: usize, mut right: F) -> usize
+    requires { F.IsAlwaysCallable right }
+    ensures { result ≤ n }
 {
-    if right {
-        return 1;
+    let mut t = *s;
+    let mut count = 0;
+    for i in 0..n {
+        toggle(&mut t, change);
+        count += usize::from(right(&t, i));
     }
-    0
+    count
 }
 
 // ---- the fixed cost of a call
 // One copy of the store a turn, to one place and to the other; what is there at the end is looked at.
-pub fn copied(s: Store, turns: usize) -> usize {
-    let mut t = s;
-    let mut two = [s; 2];
-    let mut i: usize = 0;
-    while i < turns {
-        t.live = t.live ^ 1073741824;
+pub fn copied(s: &Store, n: usize) -> usize {
+    let mut t = *s;
+    let mut two = [t; 2];
+    for i in 0..n {
+        t.live ^= BLINKING;
         two[i % 2] = t;
-        i += 1;
     }
-    let last = two[turns % 2];
-    let n = calls::counts(last);
-    if 0 < n.number {
-        return 0;
+    let last = two[n % 2];
+    if calls::counts(last).number == 0 {
+        n
+    } else {
+        0
     }
-    i
 }
 
-pub fn tested(s: Store, turns: usize) -> usize {
-    let mut t = s;
-    let mut right: usize = 0;
-    let mut i: usize = 0;
-    while i < turns {
-        t.live = t.live ^ 1073741824;
-        right += one_if(sound::sound(t));
-        i += 1;
-    }
-    right
+pub fn tested(s: &Store, n: usize) -> usize {
+    turns(s, BLINKING, n, |t, _| sound::sound(*t))
 }
 
-pub fn counted(s: Store, ranges: usize, turns: usize) -> usize {
-    let mut t = s;
-    let mut right: usize = 0;
-    let mut i: usize = 0;
-    while i < turns {
-        t.live = t.live ^ 1073741824;
-        let n = calls::counts(t);
-        right += one_if(n.ranges == ranges);
-        i += 1;
-    }
-    right
+pub fn counted(s: &Store, n: usize) -> usize {
+    turns(s, BLINKING, n, |t, _| calls::counts(*t).ranges == t.count)
 }
 
 // A read of the first bytes of a range, the ranges in turn.
-pub fn read(s: Store, pool: &[u8], own: usize, buf: &mut [u8], turns: usize) -> usize
-    requires { 0 < own }
-{
-    let mut t = s;
-    let mut right: usize = 0;
-    let mut i: usize = 0;
-    while i < turns {
-        t.live = t.live ^ 1073741824;
-        let j = i % own;
-        let at = fills::page_of(j) * PageNumber::PAGE_SIZE;
-        let k = access::read(t, pool, fills::object_of(j), at, buf);
-        right += one_if(k == 0);
-        i += 1;
-    }
-    right
+pub fn read(s: &Store, pool: &[u8], own: Parts, buf: &mut [u8], n: usize) -> usize {
+    turns(s, BLINKING, n, |t, i| {
+        let range = own.apart(i % own.ranges);
+        let at = range.first * PageNumber::PAGE_SIZE;
+        access::read(*t, pool, range.object, at, buf) == 0
+    })
 }
 
-pub fn shown(s: Store, pool: &[u8], turns: usize) -> usize {
-    let mut t = s;
-    let mut right: usize = 0;
-    let mut i: usize = 0;
-    while i < turns {
-        t.live = t.live ^ 1073741824;
-        let page = view::show(t, pool, 0, PageNumber(i % 2));
-        right += one_if(page.len() == 4096);
-        i += 1;
-    }
-    right
+pub fn shown(s: &Store, pool: &[u8], n: usize) -> usize {
+    turns(s, BLINKING, n, |t, i| {
+        view::show(*t, pool, 0, PageNumber(i % 2)).len() == PageNumber::PAGE_SIZE
+    })
 }
 
 // ---- small calls
-// 64 bytes to the first two pages of record 0, which are present and private.
-pub fn written(s: Store, pool: &mut [u8], src: &[u8], turns: usize) -> usize {
-    let mut t = s;
-    let mut right: usize = 0;
-    let mut i: usize = 0;
-    while i < turns {
-        let r = access::write(t, pool, 0, i % 128 * 64, src);
-        t = r.store;
-        right += one_if(r.number == 0);
-        i += 1;
-    }
-    right
+// 64 bytes to the first two pages of record 0, which are present and private. A turn starts from the store that the turn before left.
+pub fn written(s: &Store, pool: &mut [u8], src: &[u8], n: usize) -> usize {
+    let mut t = *s;
+    (0..n)
+        .filter(|i| {
+            let r = access::write(t, pool, 0, i % 128 * 64, src);
+            t = r.store;
+            r.number == 0
+        })
+        .count()
 }
 
-// The hand reader's upload: 300 records of 64 bytes, one call each, to a record's first `bytes` bytes.
-fn upload(s: Store, pool: &mut [u8], object: u32, bytes: usize) -> usize
-    requires { 0 < bytes }
-{
+// The first bytes of a record, which an upload goes round in.
+#[derive(Clone, Copy)]
+pub struct Head {
+    pub object: u32,
+    pub bytes: usize,
+    ghost some: { 0 < bytes },
+}
+
+impl Head {
+    pub fn new(object: u32, bytes: usize) -> Head
+        requires { 0 < bytes }
+    {
+        Head { object, bytes }
+    }
+}
+
+// The hand reader's upload: 300 records of 64 bytes, one call each.
+fn upload(mut s: Store, pool: &mut [u8], head: Head) -> bool {
     let mut src = [7u8; 64];
-    let mut t = s;
-    let mut right: usize = 0;
-    let mut i: usize = 0;
-    while i < 300 {
+    let mut right = true;
+    for i in 0..300 {
         src[0] = (i % 256) as u8;
-        let r = access::write(t, pool, object, i * 64 % bytes, &src);
-        t = r.store;
-        right += one_if(r.number == 0);
-        i += 1;
+        let r = access::write(s, pool, head.object, i * 64 % head.bytes, &src);
+        s = r.store;
+        right &= r.number == 0;
     }
     right
 }
 
-pub fn uploaded(s: Store, pool: &mut [u8], object: u32, bytes: usize, turns: usize) -> usize
-    requires { 0 < bytes }
-{
-    let mut right: usize = 0;
-    let mut i: usize = 0;
-    while i < turns {
-        right += one_if(upload(s, pool, object, bytes) == 300);
-        i += 1;
+pub fn uploaded(s: &Store, pool: &mut [u8], head: Head, n: usize) -> usize {
+    turns(s, STEADY, n, |t, _| upload(*t, pool, head))
+}
+
+pub fn added(s: &Store, pool: &mut [u8], n: usize) -> usize {
+    turns(s, STEADY, n, |t, i| {
+        access::add(*t, pool, 30, PageNumber(i % 1024)).number == 0
+    })
+}
+
+pub fn named(s: &Store, n: usize) -> usize {
+    turns(s, BLINKING, n, |t, _| calls::new_object(*t, 31).number == 0)
+}
+
+pub fn dropped(s: &Store, n: usize) -> usize {
+    turns(s, BLINKING, n, |t, _| calls::drop_object(*t, 0).number == 0)
+}
+
+// ---- look up of every page of record 0: all are present
+fn range_looked(mut s: Store, range: Pages) -> bool {
+    let mut right = true;
+    for page in range.first..range.first + range.count {
+        s.live ^= BLINKING;
+        right &= !matches!(calls::look_up(s, 0, PageNumber(page)).state, State::Absent);
     }
     right
-}
-
-pub fn added(s: Store, pool: &mut [u8], turns: usize) -> usize {
-    let mut right: usize = 0;
-    let mut i: usize = 0;
-    while i < turns {
-        let r = access::add(s, pool, 30, PageNumber(i % 1024));
-        right += one_if(r.number == 0);
-        i += 1;
-    }
-    right
-}
-
-pub fn named(s: Store, turns: usize) -> usize {
-    let mut t = s;
-    let mut right: usize = 0;
-    let mut i: usize = 0;
-    while i < turns {
-        t.live = t.live ^ 1073741824;
-        let r = calls::new_object(t, 31);
-        right += one_if(r.number == 0);
-        i += 1;
-    }
-    right
-}
-
-pub fn dropped(s: Store, turns: usize) -> usize {
-    let mut t = s;
-    let mut right: usize = 0;
-    let mut i: usize = 0;
-    while i < turns {
-        t.live = t.live ^ 1073741824;
-        let r = calls::drop_object(t, 0);
-        right += one_if(r.number == 0);
-        i += 1;
-    }
-    right
-}
-
-// ---- look up of every page of record 0: how many are present
-fn present(state: State) -> usize
-    ensures { result ≤ 1 }
-{
-    match state {
-        State::Absent => 0,
-        State::Private => 1,
-        State::Shared => 1,
-    }
-}
-
-fn range_looked(s: Store, page: usize, n: usize) -> usize
-    requires { page + n ≤ 262144 }
-    ensures { result ≤ n }
-{
-    let mut t = s;
-    let mut found: usize = 0;
-    let mut i: usize = 0;
-    while i < n {
-        t.live = t.live ^ 1073741824;
-        let r = calls::look_up(t, 0, PageNumber(page + i));
-        let state = r.state;
-        found += present(state);
-        i += 1;
-    }
-    found
 }
 
 // Each eighth range is in record 0.
-fn record_looked(s: Store, frames: usize, own: usize) -> bool
-    requires { (frames ≤ 1024) × (0 < own) × (own ≤ 512) }
-{
-    let mut missing: usize = 0;
-    let mut i: usize = 0;
-    while i < own {
-        let n = fills::part(i, frames, own);
-        let found = range_looked(s, fills::page_of(i), n);
-        missing += n - found;
-        i += 8;
-    }
-    missing == 0
+fn record_looked(s: Store, own: Parts) -> bool {
+    (0..own.ranges)
+        .step_by(8)
+        .all(|i| range_looked(s, own.apart(i)))
 }
 
-pub fn looked(s: Store, frames: usize, own: usize, turns: usize) -> usize
-    requires { (frames ≤ 1024) × (0 < own) × (own ≤ 512) }
-{
-    let mut right: usize = 0;
-    let mut i: usize = 0;
-    while i < turns {
-        right += one_if(record_looked(s, frames, own));
-        i += 1;
-    }
-    right
+pub fn looked(s: &Store, own: Parts, n: usize) -> usize {
+    turns(s, STEADY, n, |t, _| record_looked(*t, own))
 }
 
 // ---- zeroing record 0, hand-over of record 0 to record 30
-pub fn zeroed(s: Store, pool: &mut [u8], offset: usize, n: usize, turns: usize) -> usize {
-    let mut right: usize = 0;
-    let mut i: usize = 0;
-    while i < turns {
-        let r = copies::zero_ranges(s, pool, 0, offset, n);
-        right += one_if(r.number == 0);
-        i += 1;
-    }
-    right
+pub fn zeroed(s: &Store, pool: &mut [u8], offset: usize, bytes: usize, n: usize) -> usize {
+    turns(s, STEADY, n, |t, _| {
+        copies::zero_ranges(*t, pool, 0, offset, bytes).number == 0
+    })
 }
 
 // Answered with this number.
-pub fn handed_over(s: Store, pool: &mut [u8], n: usize, number: u8, turns: usize) -> usize {
-    let mut right: usize = 0;
-    let mut i: usize = 0;
-    while i < turns {
-        let r = copies::copy_ranges(s, pool, 0, 0, 30, 0, n);
-        right += one_if(r.number == number);
-        i += 1;
+pub fn handed_over(s: &Store, pool: &mut [u8], bytes: usize, number: u8, n: usize) -> usize {
+    turns(s, STEADY, n, |t, _| {
+        copies::copy_ranges(*t, pool, 0, 0, 30, 0, bytes).number == number
+    })
+}
+
+pub fn shadowed(s: &Store, pool: &[u8], bytes: usize, n: usize) -> usize {
+    turns(s, STEADY, n, |t, _| {
+        copies::copy_range_to_shadow(*t, pool, 0, 0, 30, 0, bytes).number == 0
+    })
+}
+
+// 100 single bytes into the copy of such a record: its ranges in turn, and in each of them every seventh page.
+fn touch(mut s: Store, pool: &mut [u8], parts: Parts) -> bool {
+    let mut right = true;
+    for k in 0..100 {
+        let page = parts.in_record(k % parts.ranges).first + 7 * (k / parts.ranges);
+        let r = access::write(s, pool, 30, page * PageNumber::PAGE_SIZE, &[9]);
+        s = r.store;
+        right &= r.number == 0;
     }
     right
 }
 
-pub fn shadowed(s: Store, pool: &[u8], n: usize, turns: usize) -> usize {
-    let mut t = s;
-    let mut right: usize = 0;
-    let mut i: usize = 0;
-    while i < turns {
-        t.live = t.live | 1073741824;
-        let r = copies::copy_range_to_shadow(t, pool, 0, 0, 30, 0, n);
-        right += one_if(r.number == 0);
-        i += 1;
-    }
-    right
-}
-
-// 100 single bytes into the copy of a record of m ranges: its ranges in turn, and in each of them every seventh page.
-fn touch(s: Store, pool: &mut [u8], m: usize) -> usize
-    requires { 0 < m }
-{
-    let one = [9u8; 1];
-    let mut t = s;
-    let mut right: usize = 0;
-    let mut k: usize = 0;
-    while k < 100 {
-        let first = fills::start_of(fills::at_most(k % m, 512));
-        let page = first + 7 * fills::at_most(k / m, 100);
-        let r = access::write(t, pool, 30, page * PageNumber::PAGE_SIZE, &one);
-        t = r.store;
-        right += one_if(r.number == 0);
-        k += 1;
-    }
-    right
-}
-
-pub fn touched(s: Store, pool: &mut [u8], m: usize, turns: usize) -> usize
-    requires { 0 < m }
-{
-    let mut right: usize = 0;
-    let mut i: usize = 0;
-    while i < turns {
-        right += one_if(touch(s, pool, m) == 100);
-        i += 1;
-    }
-    right
+pub fn touched(s: &Store, pool: &mut [u8], parts: Parts, n: usize) -> usize {
+    turns(s, STEADY, n, |t, _| touch(*t, pool, parts))
 }
 
 // ---- many bytes, in one call and page by page
-pub fn bulk_written(s: Store, pool: &mut [u8], src: &[u8], turns: usize) -> usize {
-    let mut right: usize = 0;
-    let mut i: usize = 0;
-    while i < turns {
-        let r = access::write(s, pool, 0, 0, src);
-        right += one_if(r.number == 0);
-        i += 1;
+pub fn bulk_written(s: &Store, pool: &mut [u8], src: &[u8], n: usize) -> usize {
+    turns(s, STEADY, n, |t, _| {
+        access::write(*t, pool, 0, 0, src).number == 0
+    })
+}
+
+pub fn bulk_read(s: &Store, pool: &[u8], buf: &mut [u8], n: usize) -> usize {
+    turns(s, STEADY, n, |t, _| access::read(*t, pool, 0, 0, buf) == 0)
+}
+
+fn write_pages(mut s: Store, pool: &mut [u8], src: &[u8]) -> bool {
+    let mut right = true;
+    for (i, page) in src.chunks_exact(PageNumber::PAGE_SIZE).enumerate() {
+        let r = access::write(s, pool, 0, i * PageNumber::PAGE_SIZE, page);
+        s = r.store;
+        right &= r.number == 0;
     }
     right
 }
 
-pub fn bulk_read(s: Store, pool: &[u8], buf: &mut [u8], turns: usize) -> usize {
-    let mut right: usize = 0;
-    let mut i: usize = 0;
-    while i < turns {
-        let k = access::read(s, pool, 0, 0, buf);
-        right += one_if(k == 0);
-        i += 1;
+pub fn pages_written(s: &Store, pool: &mut [u8], src: &[u8], n: usize) -> usize {
+    turns(s, STEADY, n, |t, _| write_pages(*t, pool, src))
+}
+
+fn read_pages(s: Store, pool: &[u8], buf: &mut [u8]) -> bool {
+    let mut right = true;
+    for (i, page) in buf.chunks_exact_mut(PageNumber::PAGE_SIZE).enumerate() {
+        right &= access::read(s, pool, 0, i * PageNumber::PAGE_SIZE, page) == 0;
     }
     right
 }
 
-fn write_pages(s: Store, pool: &mut [u8], src: &[u8]) -> bool
-    requires { length src.now ≤ 4194304 }
-{
-    let mut t = s;
-    let mut wrong: usize = 0;
-    let mut at: usize = 0;
-    while at + 4096 <= src.len() {
-        let r = access::write(t, pool, 0, at, &src[at..at + 4096]);
-        t = r.store;
-        wrong += one_if(0 < r.number);
-        at += 4096;
-    }
-    wrong == 0
+pub fn pages_read(s: &Store, pool: &[u8], buf: &mut [u8], n: usize) -> usize {
+    turns(s, STEADY, n, |t, _| read_pages(*t, pool, buf))
 }
 
-pub fn pages_written(s: Store, pool: &mut [u8], src: &[u8], turns: usize) -> usize
-    requires { length src.now ≤ 4194304 }
-{
-    let mut right: usize = 0;
-    let mut i: usize = 0;
-    while i < turns {
-        right += one_if(write_pages(s, pool, src));
-        i += 1;
-    }
-    right
-}
-
-fn read_pages(s: Store, pool: &[u8], buf: &mut [u8]) -> bool
-    requires { length buf.old ≤ 4194304 }
-{
-    let mut wrong: usize = 0;
-    let mut at: usize = 0;
-    while at + 4096 <= buf.len() {
-        let k = access::read(s, pool, 0, at, &mut buf[at..at + 4096]);
-        wrong += one_if(0 < k);
-        at += 4096;
-    }
-    wrong == 0
-}
-
-pub fn pages_read(s: Store, pool: &[u8], buf: &mut [u8], turns: usize) -> usize
-    requires { length buf.old ≤ 4194304 }
-{
-    let mut right: usize = 0;
-    let mut i: usize = 0;
-    while i < turns {
-        right += one_if(read_pages(s, pool, buf));
-        i += 1;
-    }
-    right
-}
-
-// n bytes from byte 100 of record 0 to byte 0 of another record.
-pub fn shifted(s: Store, pool: &mut [u8], object: u32, n: usize, turns: usize) -> usize {
-    let mut right: usize = 0;
-    let mut i: usize = 0;
-    while i < turns {
-        let r = copies::copy_ranges(s, pool, 0, 100, object, 0, n);
-        right += one_if(r.number == 0);
-        i += 1;
-    }
-    right
+// So many bytes from byte 100 of record 0 to byte 0 of another record.
+pub fn shifted(s: &Store, pool: &mut [u8], object: u32, bytes: usize, n: usize) -> usize {
+    turns(s, STEADY, n, |t, _| {
+        copies::copy_ranges(*t, pool, 0, 100, object, 0, bytes).number == 0
+    })
 }
