@@ -1,8 +1,8 @@
 -- LINES ANSWERED, one after another, and a part of the input done: which lines were answered, and what is left.
-use Rattle.std.specs.Prelude.{◌≡◌, refl, List, [], ◌∷◌, ◌++◌, ℕ, zero, suc, ◌+◌, ◌-◌, ◌≤◌, ◌<◌, min, length, take, drop}
-use Rattle.std.proofs.Common.{ap, subst, sym, ◌∙◌, append_assoc, append-nil, arith, length-drop, drop_of_length-le, take_all, drop-drop}
-use Rattle.std.proofs.Math.Nat.{sub-zero}
-use Rattle.console.specs.Scan.{index_of, slice}
+use Rattle.std.specs.Prelude.{◌≡◌, refl, List, [], ◌∷◌, ◌++◌, ℕ, suc, ◌+◌, ◌-◌, ◌≤◌, ◌<◌, min, length, take, drop}
+use Rattle.std.proofs.Common.{ap, subst, sym, ◌∙◌, append_assoc, append-nil, arith, add-one, length-drop}
+use Rattle.std.proofs.lemmas.List.{take_rest}
+use Rattle.console.specs.Scan.{index_of}
 use Rattle.store.specs.declared.Store.{Store}
 use Rattle.console.specs.Buffers.{take_least}
 use Rattle.lines.specs.Did.{LineDid}
@@ -24,20 +24,14 @@ pub record Spoke (line : List ℕ) (s : Store) (x o : List ℕ) (t : Store) (y p
   pub said : Said line s x digits t y
   pub printed : p ≡ o ++ (digits ++ (feed ∷ []))
 
--- the line is the first k bytes of l, its digits the first n of d
-pub as_spoke : (l d o p : List ℕ) (k n : ℕ) (s t : Store) (x y : List ℕ) → Said (take (k - 0) (drop 0 l)) s x (take n d) t y → p ≡ o ++ (take n d ++ (feed ∷ []))
-    → Spoke (take k l) s x o t y p
-as_spoke l d o p k n s t x y h e = record { digits = take n d; said = subst (λ j. Said (take j l) s x (take n d) t y) (sub-zero k) h; printed = e }
-
 -- a line of which nothing is held, and one that goes on from what is held
-pub spoke_whole : (l held o p : List ℕ) (k n : ℕ) (s t : Store) (x y : List ℕ) → n ≡ 0 → k ≡ min 513 (length l) → Spoke (take k l) s x o t y p
-    → Spoke (cut (take n held ++ l)) s x o t y p
-spoke_whole l held o p k n s t x y e f S =
-    subst (λ j. Spoke (cut (take j held ++ l)) s x o t y p) (sym e) (subst (λ z. Spoke z s x o t y p) (ap (λ j. take j l) f ∙ take_least 513 l) S)
+pub spoke_whole : (l held o p : List ℕ) (k : ℕ) (s t : Store) (x y : List ℕ) → length held ≡ 0 → k ≡ min 513 (length l) → Spoke (take k l) s x o t y p
+    → Spoke (cut (held ++ l)) s x o t y p
+spoke_whole l [] o p k s t x y e f S = subst (λ z. Spoke z s x o t y p) (ap (λ j. take j l) f ∙ take_least 513 l) S
+spoke_whole l (b ∷ held) o p k s t x y e f S = absurd (omega arith)
 
-pub spoke_held : (l held next o p : List ℕ) (k n : ℕ) (s t : Store) (x y : List ℕ) → take k next ≡ cut (take n held ++ l) → Spoke (take k next) s x o t y p
-    → Spoke (cut (take n held ++ l)) s x o t y p
-spoke_held l held next o p k n s t x y e S = subst (λ z. Spoke z s x o t y p) e S
+pub spoke_held : (l held next o p : List ℕ) (s t : Store) (x y : List ℕ) → next ≡ cut (held ++ l) → Spoke next s x o t y p → Spoke (cut (held ++ l)) s x o t y p
+spoke_held l held next o p s t x y e S = subst (λ z. Spoke z s x o t y p) e S
 
 -- A PART OF THE INPUT DONE. Before it: store s, pool x, the bytes h of the line under way, the bytes c to come. After it: t, y, g, r. Printed: o.
 pub record Done (s : Store) (x h c : List ℕ) (t : Store) (y g r o : List ℕ) : Type 0 where
@@ -48,6 +42,9 @@ pub record Done (s : Store) (x h c : List ℕ) (t : Store) (y g r o : List ℕ) 
 
 pub done_nothing : (s : Store) (x h c : List ℕ) → Done s x h c s x h c []
 done_nothing s x h c = record { lines = []; run = nothing; ending = refl; going = refl }
+
+pub done_begun : (s : Store) (x h c o : List ℕ) → o ≡ [] → Done s x h c s x h c o
+done_begun s x h c o e = subst (Done s x h c s x h c) (sym e) (done_nothing s x h c)
 
 next_run : {s t u : Store} {x y z o p line : List ℕ} {ls : List (List ℕ)} → Answers s x ls o t y → Spoke line t y o u z p → Answers s x (ls ++ (line ∷ [])) p u z
 next_run {s = s} {u = u} {x = x} {z = z} {line = line} {ls = ls} A S =
@@ -63,6 +60,27 @@ done_line {s = s} {u = u} {x = x} {g = g} {r = r} {z = z} {p = p} i D e k S = re
   going = D.going ∙ underway_next g r i e k;
 }
 
+-- the same of the slice behind the line feed, with nothing held
+pub line_law : {s t u : Store} {x h c y g r o z k p : List ℕ} (i : ℕ) → Done s x h c t y g r o → index_of feed r ≡ i → i < length r
+    → Spoke (cut (g ++ take i r)) t y o u z p → k ≡ [] → Done s x h c u z k (take (length r - (i + 1)) (drop (i + 1) r)) p
+line_law {s = s} {u = u} {x = x} {h = h} {c = c} {r = r} {z = z} {p = p} i D e l S f =
+    let q : drop (suc i) r ≡ take (length r - (i + 1)) (drop (i + 1) r) = ap (λ n. drop n r) (sym (add-one i)) ∙ sym (take_rest r (i + 1)) in
+    subst (λ w. Done s x h c u z w (take (length r - (i + 1)) (drop (i + 1) r)) p) (sym f)
+    (subst (λ w. Done s x h c u z [] w p) q (done_line i D e l S))
+
+-- and it is shorter
+module _ (r : List ℕ) (i n : ℕ) (h : length r ≤ n) (l : i < length r) where
+  shorter : length (take (length r - (i + 1)) (drop (i + 1) r)) + 1 ≤ n
+  shorter =
+      let e : length (take (length r - (i + 1)) (drop (i + 1) r)) ≡ length r - (i + 1) = ap length (take_rest r (i + 1)) ∙ length-drop (i + 1) r in
+      omega arith
+
+  pub rest_left : length (take (length r - (i + 1)) (drop (i + 1) r)) ≤ n
+  rest_left = let e = shorter in omega (arith, e)
+
+  pub rest_not_whole : length (take (length r - (i + 1)) (drop (i + 1) r)) ≡ n → ⊥
+  rest_not_whole f = let e = shorter in omega (arith, e)
+
 -- no line feed left: the rest goes on with the line under way
 pub done_rest : {s t : Store} {x h c y g r o : List ℕ} → Done s x h c t y g r o → index_of feed r ≡ length r → Done s x h c t y (cut (g ++ r)) [] o
 unfolding ended underway
@@ -77,34 +95,6 @@ done_rest {g = g} {r = r} D e = record {
 pub done_all : {s t : Store} {x h c y g o : List ℕ} → Done s x h c t y g [] o → Answers s x (ended h c) o t y
 unfolding ended
 done_all {s = s} {t = t} {x = x} {h = h} {c = c} {y = y} {o = o} D = subst (λ l. Answers s x l o t y) (sym (D.ending ∙ append-nil D.lines)) D.run
-
--- ---- the same of a chunk, from index at on, whose next line feed is at e
-
-left_all : (l : List ℕ) (a : ℕ) → slice a (length l) l ≡ drop a l
-unfolding slice
-left_all l a = ap (drop a) (take_all (length l) l (omega arith))
-
-left_index : (l : List ℕ) (a e : ℕ) → a ≤ length l → e ≡ a + index_of feed (slice a (length l) l) → index_of feed (drop a l) ≡ e - a
-left_index l a e h k = ap (index_of feed) (sym (left_all l a)) ∙ (let z : index_of feed (slice a (length l) l) ≡ e - a = omega arith in z)
-
-pub rest_law : {s t : Store} {x h c y o : List ℕ} (l held next : List ℕ) (a e k m : ℕ) → Done s x h c t y (take k held) (drop a l) o → a ≤ length l
-    → e ≡ a + index_of feed (slice a (length l) l) → e ≡ length l → take m next ≡ cut (take k held ++ take (e - a) (drop a l))
-    → Done s x h c t y (take m next) (drop e l) o
-rest_law {s = s} {t = t} {x = x} {h = h} {c = c} {y = y} {o = o} l held next a e k m D b i f g =
-    let n : length (drop a l) ≡ e - a = length-drop a l ∙ ap (λ z. z - a) (sym f) in
-    let p : take m next ≡ cut (take k held ++ drop a l) = g ∙ ap (λ z. cut (take k held ++ z)) (take_all (e - a) (drop a l) (omega arith)) in
-    let q : drop e l ≡ [] = drop_of_length-le l {i = e} (omega arith) in
-    subst (λ z. Done s x h c t y z (drop e l) o) (sym p)
-    (subst (λ z. Done s x h c t y (cut (take k held ++ drop a l)) z o) (sym q) (done_rest D (left_index l a e b i ∙ sym n)))
-
-pub line_law : {s t u : Store} {x h c y o z p : List ℕ} (l held : List ℕ) (a e k : ℕ) → Done s x h c t y (take k held) (drop a l) o → a ≤ length l
-    → e ≡ a + index_of feed (slice a (length l) l) → e < length l → Spoke (cut (take k held ++ take (e - a) (drop a l))) t y o u z p
-    → Done s x h c u z [] (drop (e + 1) l) p
-line_law {s = s} {u = u} {x = x} {h = h} {c = c} {z = z} {p = p} l held a e k D b i f S =
-    let n : length (drop a l) ≡ length l - a = length-drop a l in
-    let j : a + suc (e - a) ≡ e + 1 = omega arith in
-    let q : drop (suc (e - a)) (drop a l) ≡ drop (e + 1) l = drop-drop (suc (e - a)) a l ∙ ap (λ w. drop w l) j in
-    subst (λ w. Done s x h c u z [] w p) q (done_line (e - a) D (left_index l a e b i) (omega arith) S)
 
 -- ---- part after part
 
@@ -130,29 +120,28 @@ pub record Fed (s : Store) (x h c : List ℕ) (t : Store) (y g : List ℕ) : Typ
   pub run : Answers s x (ended h c) printed t y
   pub held : underway h c ≡ cut g
 
--- a chunk l done up to index a
-pub record Upto (s : Store) (x h l : List ℕ) (t : Store) (y g : List ℕ) (a : ℕ) : Type 0 where
+-- a chunk l done but for the bytes r
+pub record Upto (s : Store) (x h l : List ℕ) (t : Store) (y g r : List ℕ) : Type 0 where
   pub printed : List ℕ
-  pub part : Done s x h l t y g (drop a l) printed
+  pub part : Done s x h l t y g r printed
 
-pub upto_none : (s : Store) (x h l : List ℕ) → Upto s x h l s x h 0
+pub upto_none : (s : Store) (x h l : List ℕ) → Upto s x h l s x h l
 upto_none s x h l = record { printed = []; part = done_nothing s x h l }
 
-pub upto_more : {s t u : Store} {x h l y g z k p : List ℕ} (a b : ℕ) → Upto s x h l t y g a → Done t y g (drop a l) u z k (drop b l) p → Upto s x h l u z k b
-upto_more {p = p} a b U D = record { printed = U.printed ++ p; part = done_then U.part D }
+pub upto_more : {s t u : Store} {x h l y g r z k q p : List ℕ} → Upto s x h l t y g r → Done t y g r u z k q p → Upto s x h l u z k q
+upto_more {p = p} U D = record { printed = U.printed ++ p; part = done_then U.part D }
 
-pub upto_all : {s t : Store} {x h l y g : List ℕ} (a : ℕ) → Upto s x h l t y g a → length l ≤ a → Fed s x h l t y g
+pub upto_all : {s t : Store} {x h l y g : List ℕ} (r : List ℕ) → Upto s x h l t y g r → length r ≡ 0 → Fed s x h l t y g
 unfolding underway
-upto_all {s = s} {t = t} {x = x} {h = h} {l = l} {y = y} {g = g} a U b =
-    let E : Done s x h l t y g [] U.printed = subst (λ r. Done s x h l t y g r U.printed) (drop_of_length-le l {i = a} b) U.part in
-    record { printed = U.printed; run = done_all E; held = E.going }
+upto_all [] U b = record { printed = U.printed; run = done_all U.part; held = U.part.going }
+upto_all (c ∷ r) U b = absurd (omega arith)
 
--- ---- the end of the input: what is held, the first n bytes of l, is the last line, where there are any
+-- ---- the end of the input: what is held is the last line, where there is anything
 
-pub last_none : (l : List ℕ) (n : ℕ) (s : Store) (x : List ℕ) → n ≡ 0 → Answers s x (last (take n l)) [] s x
-last_none l n s x e = subst (λ k. Answers s x (last (take k l)) [] s x) (sym e) nothing
+pub last_none : (l : List ℕ) (s : Store) (x : List ℕ) → length l ≡ 0 → Answers s x (last l) [] s x
+last_none [] s x e = nothing
+last_none (b ∷ l) s x e = absurd (omega arith)
 
-pub last_some : (l : List ℕ) (n : ℕ) (s t : Store) (x y p : List ℕ) → 0 < n → n ≤ length l → Spoke (take n l) s x [] t y p → Answers s x (last (take n l)) p t y
-last_some l zero s t x y p h k S = absurd (omega arith)
-last_some [] (suc n) s t x y p h k S = absurd (omega arith)
-last_some (b ∷ l) (suc n) s t x y p h k S = next_run nothing S
+pub last_some : (l : List ℕ) (s t : Store) (x y p : List ℕ) → 0 < length l → Spoke l s x [] t y p → Answers s x (last l) p t y
+last_some [] s t x y p h S = absurd (omega arith)
+last_some (b ∷ l) s t x y p h S = next_run nothing S

@@ -2,11 +2,12 @@
 // printed is written when a part is done or the buffer is nearly full. So a person at a terminal sees each answer at once, and a pipe gets large writes.
 #![tactic(auto)]
 
-ghost use Rattle.std.specs.Prelude.{true, ◌≡◌, [], ◌∷◌, ◌++◌, ◌+◌, ◌≤◌, ◌<◌, min, length, take, drop};
-ghost use Rattle.console.specs.Scan.{index_of, slice};
-ghost use Rattle.console.specs.Lines.{feed, cut, last};
+ghost use Rattle.std.specs.Prelude.{◌≡◌, [], ◌++◌, ◌+◌, ◌≤◌, ◌<◌, length, OnOk};
+ghost use Rattle.arrayvec.specs.ArrayVec.{array_vec_len};
+ghost use Rattle.console.specs.Lines.{cut, last};
 ghost use Rattle.console.specs.Answers.{Answers, Spoke, Done, Fed};
 
+use arrayvec::ArrayVec;
 use std::io::{Read, Stdin};
 use store::Store;
 
@@ -15,267 +16,131 @@ const HELD: usize = 513;
 
 const GATHERED: usize = 65536;
 
-fn least(a: usize, b: usize) -> usize
-    ensures { result ≡ min a b }
+// The bytes of `part` behind the held ones, as many as fit.
+fn hold(held: &mut ArrayVec<u8, HELD>, part: &[u8])
+    ensures { held.new.items ≡ cut (held.old.items ++ part.now) }
 {
-    if a < b {
-        return a;
-    }
-    b
+    let n = held.remaining_capacity().min(part.len());
+    let _ = held.try_extend_from_slice(&part[..n]);
 }
 
-// The bytes of `part` behind the n held ones, as many as fit.
-fn hold(held: &mut [u8; HELD], n: usize, part: &[u8]) -> usize
-    requires { n ≤ 513 }
-    ensures { (result ≤ 513) × (take result held.new ≡ cut (take n held.old ++ part.now)) }
+// The answer to a line, and a line feed, behind the output.
+fn speak(s: &mut Store, pool: &mut [u8], line: &[u8], out: &mut ArrayVec<u8, GATHERED>)
+    requires { array_vec_len out.old + 513 ≤ 65536 }
+    ensures { Spoke line.now s.old pool.old out.old.items s.new pool.new out.new.items }
 {
-    let k = least(HELD - n, part.len());
-    pool::copy_in(held, n, part, 0, k);
-    n + k
+    let digits = lines::answer(s, pool, line);
+    let _ = out.try_extend_from_slice(&digits);
+    out.push(b'\n');
 }
 
-// The first n digits and a line feed behind the first bytes of the output.
-fn print(out: &mut [u8; GATHERED], filled: usize, digits: &[u8; 512], n: usize) -> usize
-    requires { (filled + 513 ≤ 65536) × (n ≤ 512) }
-    ensures { (result ≤ 65536) × (take result out.new ≡ take filled out.old ++ (take n digits.now ++ (feed ∷ []))) }
-{
-    pool::copy_in(out, filled, digits, 0, n);
-    out[filled + n] = b'\n';
-    filled + n + 1
-}
-
-// How many bytes are to be written after an answer, and the store.
+// The output could not be written.
 #[derive(Clone, Copy)]
-struct Spoken {
-    filled: usize,
+struct WriteFailed;
+
+fn write_out(out: &[u8]) -> Result<(), WriteFailed> {
+    if io::write_all(1, out) {
+        Ok(())
+    } else {
+        Err(WriteFailed)
+    }
+}
+
+// The line program under way: its store, the bytes held of the line under way, and the output gathered.
+#[derive(Drop)]
+struct Console {
     store: Store,
+    held: ArrayVec<u8, HELD>,
+    out: ArrayVec<u8, GATHERED>,
 }
 
-// The answer to a line, the first k bytes of `line`, behind the first bytes of the output.
-fn speak(
-    s: Store,
-    pool: &mut [u8],
-    line: &[u8],
-    k: usize,
-    out: &mut [u8; GATHERED],
-    filled: usize,
-) -> Spoken
-    requires { (k ≤ length line.now) × (filled + 513 ≤ 65536) }
-    ensures filled_bound { result.filled ≤ 65536 }
-    ensures spoke { Spoke (take k line.now) s pool.old (take filled out.old) result.store pool.new (take result.filled out.new) }
-{
-    let mut digits = [0u8; 512];
-    let r = lines::answer(s, pool, &line[0..k], &mut digits);
-    let n = r.length;
-    let m = print(out, filled, &digits, n);
-    let t = r.store;
-    Spoken {
-        filled: m,
-        store: t,
-    }
-}
-
-// A line that ends in `part`, n bytes of which are held. Its first 513 bytes are answered; where none is held, from where they stand.
-fn finish(
-    s: Store,
-    pool: &mut [u8],
-    held: &mut [u8; HELD],
-    n: usize,
-    part: &[u8],
-    out: &mut [u8; GATHERED],
-    filled: usize,
-) -> Spoken
-    requires { (n ≤ 513) × (filled + 513 ≤ 65536) }
-    ensures filled_bound { result.filled ≤ 65536 }
-    ensures spoke { Spoke (cut (take n held.old ++ part.now)) s pool.old (take filled out.old) result.store pool.new (take result.filled out.new) }
-{
-    if n == 0 {
-        let k = least(HELD, part.len());
-        return speak(s, pool, part, k, out, filled);
-    }
-    let k = hold(held, n, part);
-    speak(s, pool, held, k, out, filled)
-}
-
-// How far a part of the input is done: the next byte, how many bytes of the line under way are held, how many bytes are to be written.
-#[derive(Clone, Copy)]
-struct Progress {
-    at: usize,
-    held: usize,
-    filled: usize,
-    store: Store,
-}
-
-// The first index from `from` on, and below `to`, at which this byte stands, or `to`.
-fn find(chunk: &[u8], from: usize, to: usize, byte: u8) -> usize
-    requires { (from ≤ to) × (to ≤ length chunk.now) }
-    ensures value { result ≡ from + index_of byte (slice from to chunk.now) }
-    ensures bound { result ≤ to }
-{
-    match memchr::memchr(byte, &chunk[from..to]) {
-        Some(k) => from + k,
-        None => to,
-    }
-}
-
-// LINES OF A CHUNK, from index `from`, until the chunk is done or the output is nearly full.
-fn answer_lines(
-    s: Store,
-    pool: &mut [u8],
-    held: &mut [u8; HELD],
-    n: usize,
-    chunk: &[u8],
-    from: usize,
-    out: &mut [u8; GATHERED],
-) -> Progress
-    requires { (n ≤ 513) × (from < length chunk.now) }
-    ensures held_bound { (result.held ≤ 513) × (result.filled ≤ 65536) × (from < result.at) × (result.at ≤ length chunk.now) }
-    ensures done { Done s pool.old (take n held.old) (drop from chunk.now) result.store pool.new (take result.held held.new) (drop result.at chunk.now) (take result.filled out.new) }
-{
-    let mut t = s;
-    let mut at = from;
-    let mut k = n;
-    let mut filled: usize = 0;
-    while filled + HELD <= GATHERED {
-        let e = find(chunk, at, chunk.len(), b'\n');
-        if e == chunk.len() {
-            k = hold(held, k, &chunk[at..e]);
-            return Progress {
-                at: e,
-                held: k,
-                filled: filled,
-                store: t,
-            };
-        }
-        let r = finish(t, pool, held, k, &chunk[at..e], out, filled);
-        filled = r.filled;
-        t = r.store;
-        k = 0;
-        at = e + 1;
-    }
-    Progress {
-        at: at,
-        held: k,
-        filled: filled,
-        store: t,
-    }
-}
-
-// The first n bytes of the output written, or not.
-fn write_out(out: &[u8], n: usize) -> bool
-    requires { n ≤ length out.now }
-{
-    io::write_all(1, &out[0..n])
-}
-
-// What a chunk leaves: whether all was written, how many bytes are held, the store.
-#[derive(Clone, Copy)]
-struct Rest {
-    written: bool,
-    held: usize,
-    store: Store,
-}
-
-// A CHUNK OF THE INPUT: every line that ends in it is answered, and the answers are written.
-fn answer_chunk(
-    s: Store,
-    pool: &mut [u8],
-    held: &mut [u8; HELD],
-    n: usize,
-    chunk: &[u8],
-    out: &mut [u8; GATHERED],
-) -> Rest
-    requires { n ≤ 513 }
-    ensures held_bound { result.held ≤ 513 }
-    ensures fed { result.written ≡ true → Fed s pool.old (take n held.old) chunk.now result.store pool.new (take result.held held.new) }
-{
-    let mut t = s;
-    let mut k = n;
-    let mut at: usize = 0;
-    while at < chunk.len() {
-        let r = answer_lines(t, pool, held, k, chunk, at, out);
-        t = r.store;
-        k = r.held;
-        at = r.at;
-        if !write_out(out, r.filled) {
-            return Rest {
-                written: false,
-                held: k,
-                store: t,
-            };
-        }
-    }
-    Rest {
-        written: true,
-        held: k,
-        store: t,
-    }
-}
-
-// "Lines end in a line feed; the last one's may be missing." At the end of the input, the n bytes held are the last line, where there are any.
-fn answer_last(
-    s: Store,
-    pool: &mut [u8],
-    held: &mut [u8; HELD],
-    n: usize,
-    out: &mut [u8; GATHERED],
-) -> Spoken
-    requires { n ≤ 513 }
-    ensures filled_bound { result.filled ≤ 65536 }
-    ensures answers { Answers s pool.old (last (take n held.old)) (take result.filled out.new) result.store pool.new }
-{
-    if n == 0 {
-        return Spoken {
-            filled: 0,
-            store: s,
-        };
-    }
-    speak(s, pool, held, n, out, 0)
-}
-
-// The next bytes of the input, as many as there are now, at the start of the chunk. A read that fails counts as the end of the input.
-fn next_chunk(mut input: Stdin, chunk: &mut [u8]) -> usize
-    ensures { result ≤ length chunk.new }
-{
-    input.read(chunk).unwrap_or(0)
-}
-
-// Chunk after chunk. A write that fails ends the work. A proved loop has to end, and nothing says that
-// input does: the chunks are counted down from a number that no run uses up.
-fn answer_all(
-    input: Stdin,
-    s: Store,
-    pool: &mut [u8],
-    chunk: &mut [u8],
-    held: &mut [u8; HELD],
-    out: &mut [u8; GATHERED],
-) {
-    let mut t = s;
-    let mut n: usize = 0;
-    let mut chunks = u64::MAX;
-    while 0 < chunks {
-        let k = next_chunk(input, chunk);
-        if k == 0 {
-            let r = answer_last(t, pool, held, n, out);
-            write_out(out, r.filled);
+impl Console {
+    // A line that ends in `part`, whose first bytes may be held. Its first 513 bytes are answered; where none is held, from where they stand.
+    fn finish(&mut self, pool: &mut [u8], part: &[u8])
+        requires { array_vec_len self.old.out + 513 ≤ 65536 }
+        ensures held { self.new.held.items ≡ [] }
+        ensures spoke { Spoke (cut (self.old.held.items ++ part.now)) self.old.store pool.old self.old.out.items self.new.store pool.new self.new.out.items }
+    {
+        if self.held.is_empty() {
+            let n = HELD.min(part.len());
+            speak(&mut self.store, pool, &part[..n], &mut self.out);
             return;
         }
-        let r = answer_chunk(t, pool, held, n, &chunk[0..k], out);
-        if !r.written {
-            return;
+        hold(&mut self.held, part);
+        speak(&mut self.store, pool, &self.held, &mut self.out);
+        self.held.clear();
+    }
+
+    // LINES OF A CHUNK, until the chunk is done or the output is nearly full; what is left of the chunk.
+    fn answer_lines<'a>(&mut self, pool: &mut [u8], chunk: &'a [u8]) -> &'a [u8]
+        requires { 0 < length chunk.now }
+        ensures left { length result.now < length chunk.now }
+        ensures done { Done self.old.store pool.old self.old.held.items chunk.now self.new.store pool.new self.new.held.items result.now self.new.out.items }
+    {
+        self.out.clear();
+        let mut rest = chunk;
+        while HELD <= self.out.remaining_capacity() {
+            let Some(end) = memchr::memchr(b'\n', rest) else {
+                hold(&mut self.held, rest);
+                return &[];
+            };
+            self.finish(pool, &rest[..end]);
+            rest = &rest[end + 1..];
         }
-        t = r.store;
-        n = r.held;
-        chunks -= 1;
+        rest
+    }
+
+    // A CHUNK OF THE INPUT: every line that ends in it is answered, and the answers are written.
+    fn answer_chunk(&mut self, pool: &mut [u8], chunk: &[u8]) -> Result<(), WriteFailed>
+        ensures { OnOk result (Fed self.old.store pool.old self.old.held.items chunk.now self.new.store pool.new self.new.held.items) }
+    {
+        let mut rest = chunk;
+        while !rest.is_empty() {
+            rest = self.answer_lines(pool, rest);
+            write_out(&self.out)?;
+        }
+        Ok(())
+    }
+
+    // "Lines end in a line feed; the last one's may be missing." At the end of the input, the bytes held are the last line, where there are any.
+    fn answer_last(&mut self, pool: &mut [u8])
+        ensures { Answers self.old.store pool.old (last self.old.held.items) self.new.out.items self.new.store pool.new }
+    {
+        self.out.clear();
+        if !self.held.is_empty() {
+            speak(&mut self.store, pool, &self.held, &mut self.out);
+        }
+    }
+
+    // Chunk after chunk. A read that fails counts as the end of the input, and a write that fails ends the work. A proved loop has to end, and nothing says that
+    // input does: the chunks are counted up to a number that no run reaches.
+    fn answer_all(
+        &mut self,
+        mut input: Stdin,
+        pool: &mut [u8],
+        chunk: &mut [u8],
+    ) -> Result<(), WriteFailed> {
+        for _ in 0..u64::MAX {
+            let n = input.read(chunk).unwrap_or(0);
+            if n == 0 {
+                break;
+            }
+            self.answer_chunk(pool, &chunk[..n])?;
+        }
+        self.answer_last(pool);
+        write_out(&self.out)
     }
 }
 
 // STANDARD INPUT, answered from a store and its pool.
 pub fn run(input: Stdin, s: Store, pool: &mut [u8]) {
     let mut chunk = io::large_buffer();
-    let mut held = [0u8; HELD];
-    let mut out = [0u8; GATHERED];
-    answer_all(input, s, pool, &mut chunk, &mut held, &mut out);
+    let mut console = Console {
+        store: s,
+        held: ArrayVec::new(),
+        out: ArrayVec::new(),
+    };
+    let _ = console.answer_all(input, pool, &mut chunk);
 }
 
 // "The line program starts with a new store of 16 frames and reads lines .. from standard input".

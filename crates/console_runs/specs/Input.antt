@@ -1,11 +1,10 @@
 -- THE LINES OF AN INPUT with all their bytes, and that the answers to them are the same when each is cut after its 513th byte.
-use Rattle.std.specs.Prelude.{◌≡◌, refl, List, [], ◌∷◌, ◌++◌, map, ℕ, eqb}
+use Rattle.std.specs.Prelude.{◌≡◌, refl, List, [], ◌∷◌, ◌++◌, map, ℕ, eqb, None}
 use Rattle.std.proofs.Common.{ap, sym, ◌∙◌}
-use Rattle.std.proofs.Math.Option.{none}
 use Rattle.lists.specs.Test.{pick, by-test}
 use Rattle.book.specs.Book.{Book, pool_after}
 use Rattle.replies.specs.Line.{parse, printed, line_answer, line_answers, after_lines}
-use Rattle.lines.specs.Fields.{parse_long}
+use Rattle.lines.specs.Parse.{parse_long}
 use Rattle.line_runs.specs.LineRuns.{line_pools}
 use Rattle.console.specs.Lines.{feed, cut, ended, underway, last, cut_unseen}
 
@@ -35,7 +34,7 @@ lines_cut h (x ∷ c) = by-test (eqb x feed)
 -- ---- and no answer differs by that: "one with over 512 digits .. prints `FF`"
 
 pub parse_cut : (l : List ℕ) → parse (cut l) ≡ parse l
-parse_cut = cut_unseen parse none parse_long
+parse_cut = cut_unseen parse None parse_long
 
 pub answer_cut : (b : Book) (l : List ℕ) → line_answer b (cut l) ≡ line_answer b l
 unfolding line_answer

@@ -1,115 +1,95 @@
 -- Turns of the loops that decode and encode.
-use Rattle.std.specs.Prelude.{◌≡◌, refl, true, false, ◌&&◌, List, [], ◌∷◌, ◌++◌, ℕ, suc, ◌+◌, ◌-◌, ◌*◌, ◌/◌, ◌%◌, ◌≤◌, ◌<◌, leb, length, take, drop, get_or, set}
-use Rattle.std.proofs.Math.Path.{ap}
-use Rattle.std.proofs.Common.{ap₂, sym, ◌∙◌, append_assoc, append-nil, arith, add-one, length-set, drop_of_length-le, take-suc, take-suc-set, drop-cons}
-use Rattle.std.proofs.Math.Option.{Option, none, some}
-use borrow.Author.Tests.{leb-true, lt-ltb, le-ltb}
-use Rattle.lists.specs.Every.{both_true}
-use Rattle.hexadecimal.specs.Hex.{value_of, digit_in, byte_before, bytes_of, digit_of, digits_of}
+use Rattle.std.specs.Prelude.{◌≡◌, refl, List, [], ◌∷◌, ◌++◌, ℕ, suc, ◌+◌, ◌*◌, ◌/◌, ◌%◌, ◌≤◌, ◌<◌, min, ltb, length, take, get_or, set, Option, None, Some}
+use Rattle.std.proofs.Common.{ap, ap₂, sym, ◌∙◌, append_assoc, append-nil, arith, add-one, length-set, take-suc, take-suc-set}
+use Rattle.std.specs.Option.{SomeIff, MatchOption, IsSomeAnd}
+use Rattle.std.specs.Char.{digit_value}
+use Rattle.std.proofs.lemmas.Bool.Decides.{nat_tests}
+use Rattle.lists.specs.Test.{pick}
+use borrow.Author.Tests.{lt-ltb, le-ltb}
+use Rattle.hexadecimal.specs.Hex.{value_of, byte_before, bytes_of, digit_of, digits_of}
 
 -- ---- a digit's value
 
-module _ (c : ℕ) where
-  pub value_number : (leb 48 c && leb c 57) ≡ true → digit_in (c - 48) ≡ value_of c
-  unfolding value_of
-  value_number t =
-      let h = both_true (leb 48 c) (leb c 57) t in
-      let k : c - 48 < 16 = omega (arith, leb-true c 57 h.1) in
-      rw (t, lt-ltb (c - 48) 16 k)
+value_is : (c : ℕ) → value_of c ≡ pick (ltb (digit_value c) 16) (Some (digit_value c)) None
+unfolding value_of
+value_is c = grind (arith, nat_tests)
 
-  pub value_capital : (leb 48 c && leb c 57) ≡ false → (leb 65 c && leb c 70) ≡ true → digit_in (c - 55) ≡ value_of c
-  unfolding value_of
-  value_capital f t =
-      let h = both_true (leb 65 c) (leb c 70) t in
-      let k : c - 55 < 16 = omega (arith, leb-true c 70 h.1) in
-      rw (f, t, lt-ltb (c - 55) 16 k)
-
-  pub value_small : (leb 48 c && leb c 57) ≡ false → (leb 65 c && leb c 70) ≡ false → (leb 97 c && leb c 102) ≡ true → digit_in (c - 87) ≡ value_of c
-  unfolding value_of
-  value_small f g t =
-      let h = both_true (leb 97 c) (leb c 102) t in
-      let k : c - 87 < 16 = omega (arith, leb-true c 102 h.1) in
-      rw (f, g, t, lt-ltb (c - 87) 16 k)
-
-  pub value_other : (leb 48 c && leb c 57) ≡ false → (leb 65 c && leb c 70) ≡ false → (leb 97 c && leb c 102) ≡ false → none ≡ value_of c
-  unfolding value_of
-  value_other f g h = rw (f, g, h)
-
--- what the code's number says of a digit
-pub digit_found : (v c : ℕ) → v ≤ 15 → digit_in v ≡ value_of c → some v ≡ value_of c
-digit_found v c l e = rw (lt-ltb v 16 (omega arith)) at e
-
-pub digit_missing : (v c : ℕ) → 15 < v → digit_in v ≡ value_of c → none ≡ value_of c
-digit_missing v c l e = rw (le-ltb v 16 (omega arith)) at e
+-- the library's digit of an ASCII code, below 16, as the number r
+pub value_law : (o r : Option ℕ) (c d : ℕ) (P : ℕ → ℕ → Type 0) → d ≡ c → SomeIff o (digit_value d < 16) (digit_value d)
+    → MatchOption o (r ≡ None) (λ x. IsSomeAnd r (P x)) → ((x y : ℕ) → P x y → y ≡ x) → r ≡ value_of c
+value_law None r c d P e f h p =
+    let n : ¬ (digit_value c < 16) = rw e at f in
+    let m : 16 ≤ digit_value c = omega arith in
+    rw (value_is c, le-ltb (digit_value c) 16 m) h
+value_law (Some x) None c d P e f h p = absurd h
+value_law (Some x) (Some y) c d P e f h p =
+    let l : digit_value c < 16 = rw e at f.0 in
+    rw (value_is c, lt-ltb (digit_value c) 16 l) (ap Some (p x y h ∙ f.1 ∙ ap digit_value e))
 
 -- ---- decoding
 
 -- bytes found already, before those that are left
 abbrev pub behind : List ℕ → Option (List ℕ) → Option (List ℕ)
-behind x none = none
-behind x (some y) = some (x ++ y)
+behind x None = None
+behind x (Some y) = Some (x ++ y)
+
+behind_byte : (x : List ℕ) (h l : ℕ) (o : Option (List ℕ)) → behind (x ++ (h * 16 + l) ∷ []) o ≡ behind x (byte_before (Some h) (Some l) o)
+behind_byte x h l None = refl
+behind_byte x h l (Some y) = ap Some (append_assoc x ((h * 16 + l) ∷ []) y)
+
+before_none : (o : Option ℕ) (p : Option (List ℕ)) → byte_before o None p ≡ None
+before_none None p = refl
+before_none (Some h) p = refl
 
 pub behind_none : (o : Option (List ℕ)) → behind [] o ≡ o
-behind_none none = refl
-behind_none (some y) = refl
+behind_none None = refl
+behind_none (Some y) = refl
 
-behind_byte : (x : List ℕ) (h l : ℕ) (o : Option (List ℕ)) → behind (x ++ (h * 16 + l) ∷ []) o ≡ behind x (byte_before (some h) (some l) o)
-behind_byte x h l none = refl
-behind_byte x h l (some y) = ap some (append_assoc x ((h * 16 + l) ∷ []) y)
+before_low : (x : List ℕ) (o : Option ℕ) (p : Option (List ℕ)) → None ≡ behind x (byte_before o None p)
+before_low x o p = ap (behind x) (sym (before_none o p))
 
-before_none : (o : Option ℕ) (p : Option (List ℕ)) → byte_before o none p ≡ none
-before_none none p = refl
-before_none (some h) p = refl
+-- A pair p at the front of the digits s that are left, before the digits r: two, or the last one.
+module _ (x p r s : List ℕ) (e : s ≡ p ++ r) where
+  module _ (l : 2 ≤ length p) (m : length p < 3) where
+    next : bytes_of s ≡ byte_before (value_of (get_or p 0 0)) (value_of (get_or p 1 0)) (bytes_of r)
+    unfolding bytes_of
+    next = go p e l m
+      where
+        go : (q : List ℕ) → s ≡ q ++ r → 2 ≤ length q → length q < 3 → bytes_of s ≡ byte_before (value_of (get_or q 0 0)) (value_of (get_or q 1 0)) (bytes_of r)
+        go [] f j k = absurd (omega arith)
+        go (a ∷ []) f j k = absurd (omega arith)
+        go (a ∷ b ∷ []) f j k = ap bytes_of f
+        go (a ∷ b ∷ c ∷ q) f j k = absurd (omega arith)
 
--- the next two digits of a line
-module _ (s : List ℕ) (i : ℕ) (h : 2 * i + 1 < length s) where
-  two : drop (2 * i) s ≡ get_or s (2 * i) 0 ∷ get_or s (2 * i + 1) 0 ∷ drop (2 * (i + 1)) s
-  two =
-      let e : suc (2 * i + 1) ≡ 2 * (i + 1) = omega arith in
-      drop-cons s (2 * i) 0 (omega arith)
-      ∙ ap (λ z. get_or s (2 * i) 0 ∷ z)
-      (ap (λ k. drop k s) (sym (add-one (2 * i))) ∙ drop-cons s (2 * i + 1) 0 h ∙ ap (λ k. get_or s (2 * i + 1) 0 ∷ drop k s) e)
+    -- one turn: the pair's byte is found
+    pub decode_turn : (u v : ℕ) → Some u ≡ value_of (get_or p 0 0) → Some v ≡ value_of (get_or p 1 0)
+        → behind (x ++ (u * 16 + v) ∷ []) (bytes_of r) ≡ behind x (bytes_of s)
+    decode_turn u v f g = behind_byte x u v (bytes_of r) ∙ ap₂ (λ y z. behind x (byte_before y z (bytes_of r))) f g ∙ ap (behind x) (sym next)
 
-  next : bytes_of (drop (2 * i) s) ≡ byte_before (value_of (get_or s (2 * i) 0)) (value_of (get_or s (2 * i + 1) 0)) (bytes_of (drop (2 * (i + 1)) s))
+    -- "another character"
+    pub decode_high : None ≡ value_of (get_or p 0 0) → None ≡ behind x (bytes_of s)
+    decode_high f = ap (λ z. behind x (byte_before z (value_of (get_or p 1 0)) (bytes_of r))) f ∙ ap (behind x) (sym next)
+
+    pub decode_low : None ≡ value_of (get_or p 1 0) → None ≡ behind x (bytes_of s)
+    decode_low f =
+        before_low x (value_of (get_or p 0 0)) (bytes_of r)
+        ∙ ap (λ z. behind x (byte_before (value_of (get_or p 0 0)) z (bytes_of r))) f
+        ∙ ap (behind x) (sym next)
+
+  -- "an odd number of digits"
+  pub decode_odd : (length p ≡ 2 → ⊥) → length p ≡ min 2 (length s) → 0 < length s → None ≡ behind x (bytes_of s)
   unfolding bytes_of
-  next = ap bytes_of two
+  decode_odd n m h = go s (let k : length s ≡ 1 = omega arith in k)
+    where
+      go : (d : List ℕ) → length d ≡ 1 → None ≡ behind x (bytes_of d)
+      go [] k = absurd (omega arith)
+      go (a ∷ []) k = refl
+      go (a ∷ b ∷ d) k = absurd (omega arith)
 
-  -- one turn: the byte is found, and stands at i
-  pub decode_turn : (x : List ℕ) (u v : ℕ) → i < length x → some u ≡ value_of (get_or s (2 * i) 0) → some v ≡ value_of (get_or s (2 * i + 1) 0)
-      → behind (take i x) (bytes_of (drop (2 * i) s)) ≡ bytes_of s
-      → behind (take (i + 1) (set x i (u * 16 + v))) (bytes_of (drop (2 * (i + 1)) s)) ≡ bytes_of s
-  decode_turn x u v l p q e =
-      ap (λ z. behind z (bytes_of (drop (2 * (i + 1)) s))) (ap (λ k. take k (set x i (u * 16 + v))) (add-one i) ∙ take-suc-set x i (u * 16 + v) l)
-      ∙ behind_byte (take i x) u v (bytes_of (drop (2 * (i + 1)) s))
-      ∙ ap (behind (take i x)) (ap₂ (λ a b. byte_before a b (bytes_of (drop (2 * (i + 1)) s))) p q ∙ sym next)
-      ∙ e
-
-  -- "another character"
-  pub decode_high : (x : List ℕ) → none ≡ value_of (get_or s (2 * i) 0) → behind (take i x) (bytes_of (drop (2 * i) s)) ≡ bytes_of s → none ≡ bytes_of s
-  decode_high x p e =
-      ap (behind (take i x)) (sym (next ∙ ap (λ a. byte_before a (value_of (get_or s (2 * i + 1) 0)) (bytes_of (drop (2 * (i + 1)) s))) (sym p))) ∙ e
-
-  pub decode_low : (x : List ℕ) → none ≡ value_of (get_or s (2 * i + 1) 0) → behind (take i x) (bytes_of (drop (2 * i) s)) ≡ bytes_of s → none ≡ bytes_of s
-  decode_low x p e =
-      ap (behind (take i x))
-      (sym
-      (next
-      ∙ ap (λ a. byte_before (value_of (get_or s (2 * i) 0)) a (bytes_of (drop (2 * (i + 1)) s))) (sym p)
-      ∙ before_none (value_of (get_or s (2 * i) 0)) (bytes_of (drop (2 * (i + 1)) s))))
-      ∙ e
-
--- "an odd number of digits"
-pub decode_odd : (s x : List ℕ) (i : ℕ) → 2 * i < length s → length s ≤ 2 * i + 1 → behind (take i x) (bytes_of (drop (2 * i) s)) ≡ bytes_of s → none ≡ bytes_of s
+pub decode_end : (x s : List ℕ) → length s ≡ 0 → Some x ≡ behind x (bytes_of s)
 unfolding bytes_of
-decode_odd s x i h k e =
-    let z : drop (suc (2 * i)) s ≡ [] = drop_of_length-le s {i = suc (2 * i)} (omega arith) in
-    ap (λ d. behind (take i x) (bytes_of d)) (sym (drop-cons s (2 * i) 0 h ∙ ap (λ d. get_or s (2 * i) 0 ∷ d) z)) ∙ e
-
-pub decode_end : (s x : List ℕ) (i : ℕ) → length s ≤ 2 * i → behind (take i x) (bytes_of (drop (2 * i) s)) ≡ bytes_of s → some (take i x) ≡ bytes_of s
-unfolding bytes_of
-decode_end s x i h e =
-    let z : drop (2 * i) s ≡ [] = drop_of_length-le s h in
-    ap some (sym (append-nil (take i x))) ∙ ap (λ d. behind (take i x) (bytes_of d)) (sym z) ∙ e
+decode_end x [] h = ap Some (sym (append-nil x))
+decode_end x (a ∷ s) h = absurd (omega arith)
 
 -- ---- encoding
 

@@ -1,12 +1,11 @@
 -- LISTS OF LINES: what is printed for any list of lines is the book's, and so are the store and the pool left. A line is known by nothing but `answer`'s own
 -- contract: `Learnt` is what any caller learns of a call, and the function's proof shows it.
-use Rattle.std.specs.Prelude.{◌≡◌, refl, true, List, [], ◌∷◌, ℕ, length, take}
+use Rattle.std.specs.Prelude.{◌≡◌, refl, true, List, [], ◌∷◌, ℕ, length, Option, None, Some}
 use Rattle.std.proofs.Common.{ap, ap₂, subst, ◌∙◌}
-use Rattle.std.proofs.Math.Option.{Option, none, some}
 use contract.Lifetimes.{Lfts}
-use denote.Ref.{at_last}
+use denote.Ref.{MutBor, at_last}
+use Rattle.arrayvec.specs.ArrayVec.{ArrayVec}
 use Rattle.store.specs.declared.Store.{Store}
-use Rattle.lines.specs.declared.Answered.{Answered}
 use Rattle.book.specs.Book.{Book, Call, step, after, pool_after, created}
 use Rattle.store.specs.Abs.{book_of}
 use Rattle.store.specs.Sound.{sound?}
@@ -15,14 +14,14 @@ use Rattle.lines.specs.Did.{LineDid, line_book, line_pool, line_sound}
 use Rattle.runs.specs.Called.{Lent, Shared, Started, begun}
 use Rattle.lines.proofs.answer.Reads as answer_reads
 
--- ONE LINE: store and pool before, line, digits printed, store and pool after. The buffer for the digits may hold anything before.
+-- ONE LINE: store and pool before, line, digits printed, store and pool after.
 pub data Lined : Store → List ℕ → List ℕ → List ℕ → Store → List ℕ → Type 0 where
-  lined : (κs : Lfts 3) (s : Store) (pool : Lent) (line : Shared) (out : Lent) (r : Answered) (y z : List ℕ)
-      → answer_reads.Learnt κs (s, (pool, (line, (out, tt)))) r (s, (at_last pool y, (line, (at_last out z, tt))))
-      → Lined s pool.now line.now (take r.length z) r.store y
+  lined : (κs : Lfts 3) (s : MutBor Store) (pool : Lent) (line : Shared) (r : ArrayVec ℕ) (t : Store) (y : List ℕ)
+      → answer_reads.Learnt κs (s, (pool, (line, tt))) r (at_last s t, (at_last pool y, (line, tt)))
+      → Lined s.now pool.now line.now r.items t y
 
 did : {s t : Store} {x line d y : List ℕ} → Lined s x line d t y → LineDid line s x d t y
-did (lined κs s pool line out r y z l) = l.1
+did (lined κs s pool line r t y l) = l.1
 
 -- A RUN over a list of lines: each gets the store and the pool as the last one left them
 pub data LinesRan : Store → List ℕ → List (List ℕ) → List (List ℕ) → Store → List ℕ → Type 0 where
@@ -70,8 +69,8 @@ line_program x s ls ds u z n i r =
 
 -- the calls that the lines ask for
 abbrev before : Option Call → List Call → List Call
-before none cs = cs
-before (some c) cs = c ∷ cs
+before None cs = cs
+before (Some c) cs = c ∷ cs
 
 unfoldable pub asked : List (List ℕ) → List Call
 asked [] = []
@@ -83,5 +82,5 @@ after_asked b [] = refl
 after_asked b (l ∷ ls) = go (parse l) (λ v. after_asked v ls)
   where
     go : (o : Option Call) → ((v : Book) → after_lines v ls ≡ after v (asked ls)) → after_lines (printed b o).book ls ≡ after b (before o (asked ls))
-    go none h = h b
-    go (some c) h = h (step b c).book
+    go None h = h b
+    go (Some c) h = h (step b c).book

@@ -1,8 +1,7 @@
 -- WHAT ONE LINE HAS DONE, and that it is the book's answer to it.
-use Rattle.std.specs.Prelude.{◌≡◌, refl, true, false, List, [], ◌∷◌, ℕ, ◌*◌, ◌≤◌, length, take}
+use Rattle.std.specs.Prelude.{◌≡◌, refl, true, false, List, [], ◌∷◌, ℕ, Option, None, Some}
 use Rattle.std.proofs.Math.Path.{ap, sym}
-use Rattle.std.proofs.Common.{subst, ◌∙◌, arith, length-take-le}
-use Rattle.std.proofs.Math.Option.{Option, none, some}
+use Rattle.std.proofs.Common.{subst, ◌∙◌, arith}
 use Rattle.store.specs.declared.Store.{Store}
 use Rattle.hexadecimal.specs.Hex.{digits_of}
 use Rattle.book.specs.Book.{Call, Answer, Done, pool_after}
@@ -19,13 +18,8 @@ pub record LineDid (line : List ℕ) (s : Store) (x : List ℕ) (d : List ℕ) (
   pub replied : Replied (parse line) s x bytes t y
   pub digits : d ≡ digits_of bytes
 
-pub line_did : (line : List ℕ) (s t : Store) (x y : List ℕ) (n : ℕ) (z o : List ℕ) → Replied (parse line) s x (take n z) t y → n ≤ length z
-    → take (2 * length (take n z)) o ≡ digits_of (take n z) → LineDid line s x (take (2 * n) o) t y
-line_did line s t x y n z o R l e = record {
-  bytes = take n z;
-  replied = R;
-  digits = ap (λ m. take (2 * m) o) (sym (length-take-le n z l)) ∙ e;
-}
+pub line_did : (line : List ℕ) (s t : Store) (x y b d : List ℕ) → Replied (parse line) s x b t y → d ≡ digits_of b → LineDid line s x d t y
+line_did line s t x y b d R e = record { bytes = b; replied = R; digits = e }
 
 one_alone : (a : Answer) → spoken (said 1 a) ≡ 1 ∷ []
 unfolding spoken
@@ -40,8 +34,8 @@ module _ (line : List ℕ) (s : Store) (x d : List ℕ) (t : Store) (y : List �
   line_book h = go (parse line) L.replied
     where
       go : (o : Option Call) → Replied o s x L.bytes t y → record { digits = d; book = book_of t y } ≡ printed (book_of s x) o
-      go none R = λ i. record { digits = (L.digits ∙ ap digits_of R.bytes) i; book = book_of (R.store i) (R.pool i) }
-      go (some c) R =
+      go None R = λ i. record { digits = (L.digits ∙ ap digits_of R.bytes) i; book = book_of (R.store i) (R.pool i) }
+      go (Some c) R =
           ap (λ v. record { digits = v; book = book_of t y }) (L.digits ∙ ap digits_of R.bytes)
           ∙ ap (λ (v : Done). record { digits = digits_of (spoken v.answer); book = v.book }) (R.did.book h)
 
@@ -51,18 +45,18 @@ module _ (line : List ℕ) (s : Store) (x d : List ℕ) (t : Store) (y : List �
   line_pool h = go (parse line) L.replied
     where
       go : (o : Option Call) → Replied o s x L.bytes t y → y ≡ pool_after 4096 (printed (book_of s x) o).book.cells x
-      go none R = R.pool ∙ sym (pool_same 4096 s.frames s.places x)
-      go (some c) R = R.did.pool h
+      go None R = R.pool ∙ sym (pool_same 4096 s.frames s.places x)
+      go (Some c) R = R.did.pool h
 
   pub line_sound : sound? s ≡ true → sound? t ≡ true
   line_sound h = go (parse line) L.replied
     where
       go : (o : Option Call) → Replied o s x L.bytes t y → sound? t ≡ true
-      go none R = ap sound? R.store ∙ h
-      go (some c) R = R.did.sound h
+      go None R = ap sound? R.store ∙ h
+      go (Some c) R = R.did.sound h
 
   -- any other store is refusal 1, and nothing changes
-  pub line_spoiled : sound? s ≡ false → (c : Call) → parse line ≡ some c → (d ≡ digits_of (1 ∷ [])) × (t ≡ s) × (y ≡ x)
+  pub line_spoiled : sound? s ≡ false → (c : Call) → parse line ≡ Some c → (d ≡ digits_of (1 ∷ [])) × (t ≡ s) × (y ≡ x)
   line_spoiled h c e = go (subst (λ o. Replied o s x L.bytes t y) e L.replied)
     where
       go : Spoke c s x L.bytes t y → (d ≡ digits_of (1 ∷ [])) × (t ≡ s) × (y ≡ x)
@@ -72,7 +66,7 @@ module _ (line : List ℕ) (s : Store) (x d : List ℕ) (t : Store) (y : List �
           (L.digits ∙ ap digits_of (R.bytes ∙ ap (λ n. spoken (said n R.answer)) k ∙ one_alone R.answer), m.0, m.1)
 
   -- a line that asks for no call prints `FF`, and nothing changes, whatever the store
-  pub line_ignored : parse line ≡ none → (d ≡ digits_of malformed) × (t ≡ s) × (y ≡ x)
+  pub line_ignored : parse line ≡ None → (d ≡ digits_of malformed) × (t ≡ s) × (y ≡ x)
   line_ignored e =
       let R : Ignored s x L.bytes t y = subst (λ o. Replied o s x L.bytes t y) e L.replied in
       (L.digits ∙ ap digits_of R.bytes, R.store, R.pool)

@@ -1,4 +1,4 @@
-pub mod Fields
+pub mod Parse
 pub mod Did
 pub mod Text
 pub mod Examples

@@ -24,24 +24,8 @@ fn put(out: &mut [u8], at: usize, b: u8) -> usize {
 
 fn put_all(out: &mut [u8], at: usize, text: &[u8]) -> usize {
     let mut a = at;
-    let mut i: usize = 0;
-    while i < text.len() {
-        a = put(out, a, text[i]);
-        i += 1;
-    }
-    a
-}
-
-// The first n bytes of an answer.
-fn put_text(out: &mut [u8], at: usize, text: &[u8; 512], n: usize) -> usize {
-    let mut a = at;
-    let mut i: usize = 0;
-    while i < 512 {
-        if n <= i {
-            return a;
-        }
-        a = put(out, a, text[i]);
-        i += 1;
+    for b in text {
+        a = put(out, a, *b);
     }
     a
 }
@@ -320,10 +304,9 @@ fn started(line: &[u8], out: &mut [u8], at: usize) -> Printed {
 }
 
 fn answered(s: Store, pool: &mut [u8], line: &[u8], out: &mut [u8], at: usize) -> Printed {
-    let mut text = [0u8; 512];
-    let r = lines::answer(s, pool, line, &mut text);
-    let a = put_text(out, at, &text, r.length);
-    let store = r.store;
+    let mut store = s;
+    let text = lines::answer(&mut store, pool, line);
+    let a = put_all(out, at, &text);
     Printed { store, at: a }
 }
 

@@ -1,2 +1,4 @@
 pub mod Line
+pub mod Command
+pub mod Fields
 pub mod Replies

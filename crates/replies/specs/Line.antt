@@ -1,6 +1,5 @@
 -- THE LINE PROGRAM'S LINES: what call a line asks for, and what line answers it. A line is the list of its characters' codes, without the line feed.
-use Rattle.std.specs.Prelude.{Bool, List, [], ◌∷◌, ℕ, ◌+◌, ◌*◌, ◌/◌, ◌%◌, ltb, leb, eqb, length, get_or, drop}
-use Rattle.std.proofs.Math.Option.{Option, none, some}
+use Rattle.std.specs.Prelude.{Bool, List, [], ◌∷◌, ℕ, ◌+◌, ◌*◌, ◌/◌, ◌%◌, ltb, leb, eqb, length, get_or, drop, Option, Some, None}
 use Rattle.lists.specs.Test.{pick}
 use Rattle.hexadecimal.specs.Hex.{bytes_of, digits_of}
 use Rattle.book.specs.Need.{state_byte}
@@ -42,20 +41,20 @@ rows x =
 
 -- none for "an unknown code, a field too short or too long"
 unfoldable pub chosen : ℕ → List Row → Option Call
-chosen k [] = none
-chosen k (r ∷ rs) = pick (eqb k r.code) (pick r.fits (some r.call) none) (chosen k rs)
+chosen k [] = None
+chosen k (r ∷ rs) = pick (eqb k r.code) (pick r.fits (Some r.call) None) (chosen k rs)
 
 -- the call of a line's bytes; none for "An empty line"
 abbrev pub call_of : List ℕ → Option Call
-call_of x = pick (eqb (length x) 0) none (chosen (byte_at 0 x) (rows x))
+call_of x = pick (eqb (length x) 0) None (chosen (byte_at 0 x) (rows x))
 
 abbrev pub call_in : Option (List ℕ) → Option Call
-call_in none = none
-call_in (some x) = call_of x
+call_in None = None
+call_in (Some x) = call_of x
 
 -- THE CALL OF A LINE; none for a line that "prints `FF`", also for "one with over 512 digits"
 unfoldable pub parse : List ℕ → Option Call
-parse line = pick (ltb 512 (length line)) none (call_in (bytes_of line))
+parse line = pick (ltb 512 (length line)) None (call_in (bytes_of line))
 
 -- "(two bytes)": a number's low two, high byte first. A frame is below 1,024 and there are at most 512 ranges.
 abbrev pub two_of : ℕ → List ℕ → List ℕ
@@ -81,8 +80,8 @@ pub record Printed : Type 0 where
   pub book : Book
 
 abbrev pub printed : Book → Option Call → Printed
-printed b none = record { digits = digits_of malformed; book = b }
-printed b (some c) = record { digits = digits_of (spoken (step b c).answer); book = (step b c).book }
+printed b None = record { digits = digits_of malformed; book = b }
+printed b (Some c) = record { digits = digits_of (spoken (step b c).answer); book = (step b c).book }
 
 unfoldable pub line_answer : Book → List ℕ → Printed
 line_answer b line = printed b (parse line)

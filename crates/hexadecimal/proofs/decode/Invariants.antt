@@ -1,13 +1,13 @@
--- `hexadecimal::decode`: the bytes found, before those of the digits left, are the line's; a turn finds one more (`decode_turn`).
-use mathlib.Core.Path.{◌≡◌}
-use Prim.Native.Nat.{◌≤◌, ◌-◌, ◌*◌}
-use lib.ListN.{length, take, drop}
-use Rattle.hexadecimal.specs.Loops.{behind}
+-- The bytes found, before those of the digits that are left, are the line's.
+use Rattle.std.proofs.Common.{◌≡◌, ◌+◌, ◌*◌, length}
+use Rattle.std.specs.Slice.Iter.{chunks_rest, chunks_size}
 use Rattle.hexadecimal.specs.Hex.{bytes_of}
+use Rattle.hexadecimal.specs.Loops.{behind}
 use Rattle.hexadecimal.proofs.decode.Given as goal
 
-abbrev pub invariant-loop-i : goal.invariant-loop-i
-invariant-loop-i l = (2 * l.i ≤ length l.line) × (length l.bytes ≡ 256) × (behind (take l.i l.bytes) (bytes_of (drop (2 * l.i) l.line)) ≡ bytes_of l.line)
-
-abbrev pub decreases-loop-i : goal.decreases-loop-i
-decreases-loop-i l = length l.line - l.i
+abbrev pub invariant-loop-pair : goal.invariant-loop-pair
+invariant-loop-pair l = record {
+  two : chunks_size l.pair-iterator ≡ 2;
+  room : 2 * length l.bytes.items + length (chunks_rest l.pair-iterator) ≡ length l.line;
+  found : behind l.bytes.items (bytes_of (chunks_rest l.pair-iterator)) ≡ bytes_of l.line;
+}

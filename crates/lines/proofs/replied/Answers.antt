@@ -1,35 +1,25 @@
 -- `lines::replied`: a line that is too long or malformed has no call; any other has that of its bytes.
-use mathlib.Core.Path.{sym}
-use Prim.Native.Nat.{◌≤◌}
-use native.Mathlib.Omega.{arith}
-use lib.Seq.{length-take-le}
-use lib.ListN.{length}
-use Rattle.lines.specs.Fields.{parse_long, parse_malformed, parse_bytes}
-use Rattle.replies.specs.Replies.{replied_none, same_call}
+use Rattle.std.proofs.Common.{arith, ap, sym, ◌∙◌}
+use Rattle.replies.specs.Line.{call_of}
+use Rattle.replies.specs.Replies.{ignored, replied_call, replied_none}
+use Rattle.lines.specs.Parse.{parse_long, parse_malformed, parse_bytes}
 use Rattle.lines.proofs.replied.Goals as goal
 
 pub returns-then-line-gt512 : goal.returns-then-line-gt512
-returns-then-line-gt512 c =
-    let a = c.args in
-    let r = c.malformed in
-    (r.ensures.0, replied_none _ _ _ _ _ _ (parse_long a.line.now (omega (arith, c.if-line-gt512.true))) (r.ensures.1 a.pool.now))
+returns-then-line-gt512 c = replied_none _ _ _ _ _ _ (parse_long _ (omega arith)) (ignored _ _ _ c.malformed.ensures)
 
-pub returns-then-n-gt256 : goal.returns-then-n-gt256
-returns-then-n-gt256 c =
-    let a = c.args in
-    let r = c.malformed-then-n-gt256 in
-    let n = c.decode-n in
-    (r.ensures.0, replied_none _ _ _ _ _ _ (parse_malformed a.line.now c.if-line-gt512.false n.result _ n.ensures c.if-n-gt256.true) (r.ensures.1 a.pool.now))
+pub returns-in_default : goal.returns-in_default
+returns-in_default c =
+    replied_none _ _ _ _ _ _ (parse_malformed _ (omega arith) c.in_default.ensures) (ignored _ _ _ c.malformed-in_default.ensures)
 
-pub slice_bounds-dispatch-end : goal.slice_bounds-dispatch-end
-slice_bounds-dispatch-end c =
-    let n = c.decode-n in
-    let l : n.result ≤ length n.new.bytes = omega (arith, n.auto.bytes, c.if-n-gt256.false) in
-    sym (length-take-le n.result n.new.bytes l)
+pub returns-in_default-parse : goal.returns-in_default-parse
+returns-in_default-parse c =
+    replied_none _ _ _ _ _ _
+    (parse_bytes _ (omega arith) _ c.in-Some.ensures ∙ ap call_of (sym c.deref.ensures.0) ∙ sym c.in_default-parse.ensures)
+    (ignored _ _ _ c.malformed-in_default-parse.ensures)
 
 pub returns : goal.returns
 returns c =
-    let a = c.args in
-    let r = c.dispatch in
-    let n = c.decode-n in
-    (r.ensures.0, same_call _ _ _ _ _ _ _ (parse_bytes a.line.now c.if-line-gt512.false n.result _ n.ensures c.if-n-gt256.false) r.ensures.1)
+    replied_call _ _ _ _ _ _ _
+    (parse_bytes _ (omega arith) _ c.in-Some.ensures ∙ ap call_of (sym c.deref.ensures.0) ∙ sym c.in-Some-parse.ensures)
+    c.answer.ensures
