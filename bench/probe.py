@@ -34,10 +34,10 @@ def logged(turns, folder):
 
 
 def sections(turns, folder):
-    """For each work and fill, in the program's order: what its turns copied, by function and size, and the stack. A line is written in parts; its turns are
-    done when the blank behind the ranges is written."""
+    """For each work and fill, in the program's order: what its turns copied, by function and size, and the stack. The work, the frames and the ranges are written
+    before the turns are made, and what the turns have shown behind them."""
     places, names = symbols()
-    out, line, copies, deep = [], "", {}, 0
+    out, last, copies, deep = [], "", {}, 0
     for row in logged(turns, folder):
         kind, _, rest = row.partition(" ")
         if kind == "c":
@@ -47,10 +47,9 @@ def sections(turns, folder):
         elif kind == "d":
             deep = int(rest)
         else:
-            line = line + rest if rest else ""
-            if re.fullmatch(r"\w+ \d+ \d+ ", line):
-                out.append((line.strip(), copies, deep))
-            copies = {}
+            if re.fullmatch(r"\w+ \d+ \d+ ", last):
+                out.append((last.strip(), copies, deep))
+            last, copies = rest, {}
     return out
 
 

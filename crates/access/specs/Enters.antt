@@ -19,7 +19,7 @@ use Rattle.store.specs.Abs.{book_of}
 use Rattle.store.specs.Sound.{Sound, Sized}
 use Rattle.store.specs.Good.{sound_book, sound_table}
 use Rattle.store.specs.Spare.{work_of, entry_work}
-use Rattle.refuse.specs.Refuse.{refusal}
+use Rattle.refusals.specs.Refuse.{refusal}
 use Rattle.calls.specs.Kept.{with_sound, with_accepted}
 use Rattle.pages.specs.Inside.{Inside}
 use Rattle.pages.specs.Enter.{enter}

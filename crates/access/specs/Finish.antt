@@ -16,7 +16,7 @@ use Rattle.store.specs.Iff.{says_sound}
 use Rattle.store.specs.Spare.{work_of, entry_work}
 use Rattle.store.specs.Back.{store_sound, sound_besides}
 use Rattle.store.specs.Pool.{pool_same, pool_left}
-use Rattle.refuse.specs.Refuse.{refusal}
+use Rattle.refusals.specs.Refuse.{refusal}
 use Rattle.calls.specs.Calls.{zero_sound}
 use Rattle.calls.specs.Kept.{with_sound, with_accepted, with_left}
 use Rattle.calls.specs.With.{DidWith, with_done}
@@ -35,7 +35,8 @@ finish c s x Z r l a w e t y v I f g d m p =
     let b : leave (book_of s x) w ≡ book_of (closed t d) y = ap (λ z. leave (book_of s x) z) (sym v) ∙ sym (closed_book s t x y d f g n) in
     let q : perform (book_of s x) c ≡ record { answer = a; book = book_of (closed t d) y } = e ∙ ap (λ z. record { answer = a; book = z }) b in
     let B : book.Sound (book_of (closed t d) y) = subst (λ z. book.Sound z.book) q (with_left c s x r Z (omega arith)) in
-    with_done c s x a (closed t d) y r (says_sound (closed t d) (store_sound (closed t d) y B (closed_besides t y d I m))) q (sym p)
+    with_done c s x a (closed t d) y r (says_sound (closed t d) (store_sound (closed t d) y B (closed_besides t y d I m)))
+    (λ _. record { ranges = I.sized.ranges; places = I.sized.places; free = m.long }) q (sym p)
 
 -- a call that asks for a pool and is not refused has one of the right length
 pub pool_length : (c : Call) (s : Store) (x : List ℕ) → 0 ≡ refusal s x c → (rs : Table) → table (book_of s x) c ≡ (no_pool (book_of s x), 2) ∷ rs
@@ -87,7 +88,7 @@ module _ (s : Store) (x : List ℕ) (Z : Sized s) where
       → DidWith (read o off n) s x 0 (bytes buf) s x
   unfolding perform
   read_done o off n r buf e =
-      with_done (read o off n) s x (bytes buf) s x r (zero_sound (read o off n) s x r)
+      with_done (read o off n) s x (bytes buf) s x r (zero_sound (read o off n) s x r) (λ z. z)
       (ap (λ b. record { answer = bytes b; book = book_of s x }) (sym e)) (sym (pool_same 4096 s.frames s.places x))
 
 -- said of the store as the code hands it back

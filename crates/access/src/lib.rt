@@ -1,138 +1,89 @@
-// THE CALLS THAT LEND A POOL AND WORK ON BYTES OF PAGES. Each takes any store, any pool and any arguments. Its number is 0, or that of the table.
+// THE CALLS THAT LEND A POOL AND WORK ON BYTES OF PAGES. Each takes any store, any pool and any arguments, and answers why it is turned down if it is.
 #![tactic(auto)]
 
-ghost use Rattle.std.specs.Prelude.{◌≡◌, ◌<◌, length};
+ghost use Rattle.std.specs.Prelude.{◌≡◌, length, OnErr};
 ghost use Rattle.book.specs.Book.{add, read, write, added, bytes, done};
+ghost use Rattle.refusals.specs.Number.{number_of};
+ghost use Rattle.calls.specs.Calls.{left};
 ghost use Rattle.calls.specs.With.{DidWith};
-ghost use Rattle.sheet.specs.Sheet.{store_of};
-ghost use Rattle.seek.specs.Framed.{Charted};
-ghost use Rattle.seek.specs.Held.{Held};
-ghost use Rattle.writes.specs.Going.{Going};
-ghost use Rattle.writes.specs.Written.{Room};
+ghost use Rattle.access.specs.Added.{frame_in, store_in};
 
-use calls::Reply;
+use charts::Charts;
 use page::PageNumber;
+use refusals::{Entry, Extent, Refusal};
 use store::Store;
 
-// The frame of an added page; 0 where the call is refused.
+// The store left, and the frame of an added page.
 #[derive(Clone, Copy)]
 pub struct Added {
     pub store: Store,
     pub frame: usize,
-    pub number: u8,
 }
 
-pub fn add(s: Store, pool: &mut [u8], object: u32, page: PageNumber) -> Added
-    ensures { (DidWith (add object page.0) s pool.old result.number (added result.frame) result.store pool.new) × (0 < result.number → result.frame ≡ 0) }
+pub fn add(mut s: Store, pool: &mut [u8], object: u32, page: PageNumber) -> Result<Added, Refusal>
+    ensures { DidWith (add object page.0) s pool.old (number_of result) (added (frame_in result)) (store_in s result) pool.new }
 {
-    let mut sheet = [0u64; 2579];
-    let mut holders = [0u16; 2048];
-    let mut links = [0u16; 2048];
-    sound::load(s, &mut sheet);
-    let ranges = s.ranges;
-    let rows = sound_ranges::rows(ranges, s.count, s.live, &mut sheet);
-    let ok = sound::examine(rows, &sheet, &mut holders, &mut links);
-    let k = enter::add(ok, &sheet, pool.len(), object, page);
-    if 0 < k {
-        return Added {
-            store: s,
-            frame: 0,
-            number: k,
-        };
-    }
-    let f = steps::add_page(&mut sheet, pool, object, page);
-    let frames = sheet::frames(&sheet);
-    let ranges = closing::ranges_of(&sheet);
-    let places = closing::places_of(&sheet);
-    let free = closing::free_map(&sheet, frames);
-    Added {
-        store: Store {
-            frames,
-            live: sheet::live(&sheet),
-            count: sheet::count(&sheet),
-            ranges,
-            places,
-            free,
-        },
-        frame: f,
-        number: 0,
-    }
+    let mut charts = Charts::new();
+    refusals::enter(&s, &mut charts)?.add(pool.len(), object, page)?;
+    let frame = page_steps::add_page(&mut s, pool, object, page);
+    freeing::renew(&mut s);
+    Ok(Added { store: s, frame })
 }
 
-// "The length of a read or write is that of its lent buffer." A refused read leaves the buffer as it is.
-pub fn read(s: Store, pool: &[u8], object: u32, offset: usize, buf: &mut [u8]) -> u8
-    ensures { (DidWith (read object offset (length buf.old)) s pool.now result (bytes buf.new) s pool.now) × (0 < result → buf.new ≡ buf.old) }
+// "The length of a read or write is that of its lent buffer." A refused read leaves the buffer as it is. By hand: the parameters are those that 01 gives the call.
+pub fn read(
+    s: Store,
+    pool: &[u8],
+    object: u32,
+    offset: usize,
+    buf: &mut [u8],
+) -> Result<(), Refusal>
+    ensures did { DidWith (read object offset (length buf.old)) s pool.now (number_of result) (bytes buf.new) s pool.now }
+    ensures refused { OnErr result (buf.new ≡ buf.old) }
 {
-    let mut sheet = [0u64; 2579];
-    let mut holders = [0u16; 2048];
-    let mut links = [0u16; 2048];
-    let n = buf.len();
-    sound::load(s, &mut sheet);
-    let ranges = s.ranges;
-    let rows = sound_ranges::rows(ranges, s.count, s.live, &mut sheet);
-    let ok = sound::examine(rows, &sheet, &mut holders, &mut links);
-    let k = enter::read(ok, &sheet, pool.len(), object, offset, n);
-    if 0 < k {
-        return k;
-    }
-    fetch::read_pages(&sheet, &links, pool, object, offset, buf);
-    0
+    let extent = Extent {
+        object,
+        offset,
+        n: buf.len(),
+    };
+    let mut charts = Charts::new();
+    let sound = refusals::enter(&s, &mut charts)?;
+    sound.read(pool.len(), extent)?;
+    let entry = Entry {
+        sound,
+        charts: &charts,
+    };
+    in_place::read_pages(&entry.states().pages, pool, object, offset, buf);
+    Ok(())
 }
 
-// Of a write with the number k: the bytes of src written as far as pages are present and private, if it is not refused; how many are written.
-fn overwritten(
-    k: u8,
-    sheet: &[u64; 2579],
-    holders: &[u16; 2048],
-    links: &[u16; 2048],
+// The pages that are present and private are written where they are; from the first other one on the store changes. By hand: the parameters
+// are those that 01 gives the call.
+pub fn write(
+    mut s: Store,
     pool: &mut [u8],
     object: u32,
     offset: usize,
     src: &[u8],
-) -> usize
-    requires { k ≡ 0 → (Charted sheet.now links.now) × (Room (store_of sheet.now) pool.old object offset (length src.now)) × (Held sheet.now holders.now) }
-    ensures { (k ≡ 0 → Going (store_of sheet.now) pool.old object offset src.now result (store_of sheet.now) pool.new) × (0 < k → pool.new ≡ pool.old) }
+) -> Result<Store, Refusal>
+    ensures { DidWith (write object offset src.now) s pool.old (number_of result) done (left s result) pool.new }
 {
-    if 0 < k {
-        return 0;
+    let extent = Extent {
+        object,
+        offset,
+        n: src.len(),
+    };
+    let mut charts = Charts::new();
+    let sound = refusals::enter(&s, &mut charts)?;
+    let entry = Entry {
+        sound,
+        charts: &charts,
+    };
+    entry.write(pool.len(), extent)?;
+    let done = in_place::overwrite_pages(&entry.states(), pool, object, offset, src);
+    if done < src.len() {
+        page_writes::write_pages(&mut s, pool, object, offset + done, &src[done..]);
+        freeing::renew(&mut s);
     }
-    fetch::overwrite_pages(sheet, holders, links, pool, object, offset, src)
-}
-
-// The pages that are present and private are written where they are; from the first other one on the store changes.
-pub fn write(s: Store, pool: &mut [u8], object: u32, offset: usize, src: &[u8]) -> Reply
-    ensures { DidWith (write object offset src.now) s pool.old result.number done result.store pool.new }
-{
-    let mut sheet = [0u64; 2579];
-    let mut holders = [0u16; 2048];
-    let mut links = [0u16; 2048];
-    let n = src.len();
-    sound::load(s, &mut sheet);
-    let ranges = s.ranges;
-    let rows = sound_ranges::rows(ranges, s.count, s.live, &mut sheet);
-    let ok = sound::examine(rows, &sheet, &mut holders, &mut links);
-    let k = enter::write(ok, &sheet, &holders, &links, pool.len(), object, offset, n);
-    let done = overwritten(k, &sheet, &holders, &links, pool, object, offset, src);
-    if (0 < k) | (done == n) {
-        return Reply {
-            store: s,
-            number: k,
-        };
-    }
-    writing::write_pages(&mut sheet, pool, object, offset + done, &src[done..]);
-    let frames = sheet::frames(&sheet);
-    let ranges = closing::ranges_of(&sheet);
-    let places = closing::places_of(&sheet);
-    let free = closing::free_map(&sheet, frames);
-    Reply {
-        store: Store {
-            frames,
-            live: sheet::live(&sheet),
-            count: sheet::count(&sheet),
-            ranges,
-            places,
-            free,
-        },
-        number: 0,
-    }
+    Ok(s)
 }

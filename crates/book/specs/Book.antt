@@ -1,6 +1,5 @@
 -- THE RUN BOOK of document 01: its calls, its refusals, its answers, and what each call leaves.
-use Rattle.std.specs.Prelude.{Bool, true, false, not, ◌&&◌, ◌||◌, List, [], ◌∷◌, ◌++◌, ℕ, zero, suc, ◌+◌, ◌*◌, ◌/◌, ◌%◌, ltb, leb, eqb, length, set, replicate, get_or, take, drop}
-use Rattle.std.proofs.Math.Option.{Option, none, some}
+use Rattle.std.specs.Prelude.{Bool, true, false, not, ◌&&◌, ◌||◌, List, [], ◌∷◌, ◌++◌, ℕ, zero, suc, ◌+◌, ◌*◌, ◌/◌, ◌%◌, ltb, leb, eqb, length, set, replicate, get_or, take, drop, Option, Some, None}
 use Rattle.lists.specs.Test.{pick}
 use Rattle.ranges.specs.Range.{Range, Slot, line, slot_at}
 use Rattle.book.specs.Page.{object_bytes}
@@ -66,8 +65,8 @@ in_use (holds b i x ∷ cs) = suc (in_use cs)
 
 -- "A present page can be shown ..; an absent page .. shows an empty part"
 abbrev pub shown : Option (List ℕ) → List ℕ
-shown none = []
-shown (some x) = x
+shown None = []
+shown (Some x) = x
 
 -- what each call does when it is not refused
 unfoldable pub perform : Book → Call → Done
@@ -185,8 +184,8 @@ created frames pool = (create frames pool).book
 
 -- "each page's frame"
 abbrev pub frame_in : List Cell → Option Slot → Option ℕ
-frame_in cs none = none
-frame_in cs (some s) = frame_at s 0 cs
+frame_in cs None = None
+frame_in cs (Some s) = frame_at s 0 cs
 
 unfoldable pub frame_of : Book → ℕ → ℕ → Option ℕ
 frame_of b o p = frame_in b.cells (slot_at (line o p) b.ranges)

@@ -1,6 +1,5 @@
 -- Bytes of objects: reading, writing, clearing, page after page.
-use Rattle.std.proofs.Math.Option.{Option, none, some}
-use Rattle.std.specs.Prelude.{List, [], ◌++◌, ℕ, zero, suc, ◌-◌, ◌/◌, ◌%◌, eqb, length, take, drop, replicate, get_or}
+use Rattle.std.specs.Prelude.{List, [], ◌++◌, ℕ, zero, suc, ◌-◌, ◌/◌, ◌%◌, eqb, length, take, drop, replicate, get_or, Option, Some, None}
 use Rattle.lists.specs.Test.{pick}
 use Rattle.ranges.specs.Range.{line}
 use Rattle.book.specs.Page.{touched, over}
@@ -30,8 +29,8 @@ writing o x d w = write_from w.size (touched w.size x (length d)) o (x / w.size)
 
 -- "clears bytes in present partial pages": n bytes from place k of page p
 abbrev pub cleared : ℕ → ℕ → ℕ → ℕ → Work → Option (List ℕ) → Work
-cleared o p k n w none = w
-cleared o p k n w (some x) = write_page o p (over k (replicate n 0)) w
+cleared o p k n w None = w
+cleared o p k n w (Some x) = write_page o p (over k (replicate n 0)) w
 
 -- n bytes from offset x, all in one page
 unfoldable pub clear : ℕ → ℕ → ℕ → Work → Work

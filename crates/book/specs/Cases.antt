@@ -1,6 +1,5 @@
 -- "Cases (a) to (l) are proved as one table."
-use Rattle.std.specs.Prelude.{◌≡◌, refl, true, false, List, [], ◌∷◌, ◌++◌, ℕ, ◌+◌, ◌-◌, ◌*◌, take, drop, replicate}
-use Rattle.std.proofs.Math.Option.{none}
+use Rattle.std.specs.Prelude.{◌≡◌, refl, true, false, List, [], ◌∷◌, ◌++◌, ℕ, ◌+◌, ◌-◌, ◌*◌, take, drop, replicate, None}
 use Rattle.ranges.specs.Range.{Range, slot_at, carve}
 use Rattle.book.specs.Cell.{Cell, free, holds}
 use Rattle.book.specs.Book.{Book, add, read, copy, zero_out, refused, done, bytes, answers, after}
@@ -28,7 +27,7 @@ pub record Cases : Type 0 where
   pub c : carve 5 12 (pages 10 20 0 ∷ []) ≡ pages 12 20 2 ∷ []
   pub d : carve 19 30 (pages 10 20 0 ∷ []) ≡ pages 10 19 0 ∷ []
   -- Page 20 is outside that range
-  pub e : slot_at 20 (pages 10 20 0 ∷ []) ≡ none
+  pub e : slot_at 20 (pages 10 20 0 ∷ []) ≡ None
   -- Unshared range 0–5: adding page 20 makes it 0–21; adding page 21 starts a new range
   pub f : (after (none_present (pages 0 5 0 ∷ [])) (add 0 20 ∷ [])).ranges ≡ pages 0 21 0 ∷ []
   pub g : (after (none_present (pages 0 5 0 ∷ [])) (add 0 21 ∷ [])).ranges

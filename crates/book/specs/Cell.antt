@@ -1,7 +1,6 @@
 -- "a backing has at each index nothing, or a frame number and 4,096 bytes". Kept by frame: free, or a backing, an index and the bytes;
 -- so "Each frame is free or stands in exactly one backing at one index" holds by form.
-use Rattle.std.specs.Prelude.{Bool, false, ◌&&◌, List, [], ◌∷◌, map, ℕ, suc, eqb}
-use Rattle.std.proofs.Math.Option.{Option, none, some}
+use Rattle.std.specs.Prelude.{Bool, false, ◌&&◌, List, [], ◌∷◌, map, ℕ, suc, eqb, Option, Some, None}
 use Rattle.lists.specs.Test.{pick}
 use Rattle.ranges.specs.Range.{Range, Slot}
 use Rattle.ranges.specs.Table.{named}
@@ -17,14 +16,14 @@ is_at s (holds b i x) = eqb b s.inside && eqb i s.index
 
 -- what stands at a slot: nothing, or bytes; cells stand by frame number
 unfoldable pub bytes_at : Slot → List Cell → Option (List ℕ)
-bytes_at s [] = none
+bytes_at s [] = None
 bytes_at s (free ∷ cs) = bytes_at s cs
-bytes_at s (holds b i x ∷ cs) = pick (is_at s (holds b i x)) (some x) (bytes_at s cs)
+bytes_at s (holds b i x ∷ cs) = pick (is_at s (holds b i x)) (Some x) (bytes_at s cs)
 
 -- the frame that stands at a slot, counted from n
 unfoldable pub frame_at : Slot → ℕ → List Cell → Option ℕ
-frame_at s n [] = none
-frame_at s n (c ∷ cs) = pick (is_at s c) (some n) (frame_at s (suc n) cs)
+frame_at s n [] = None
+frame_at s n (c ∷ cs) = pick (is_at s c) (Some n) (frame_at s (suc n) cs)
 
 -- "Entries in no holder's window go at once .. and their frames become free."
 abbrev pub kept : List Range → Cell → Cell

@@ -1,7 +1,6 @@
 -- The worked example of document 01, one list of calls for each of the ten differences, and one for the order of refusals: theorems by computation.
 -- The answers are written by hand from document 01.
-use Rattle.std.specs.Prelude.{◌≡◌, refl, true, false, List, [], ◌∷◌, ℕ, replicate}
-use Rattle.std.proofs.Math.Option.{Option, some}
+use Rattle.std.specs.Prelude.{◌≡◌, refl, true, false, List, [], ◌∷◌, ℕ, replicate, Option, Some}
 use Rattle.ranges.specs.Range.{Range}
 use Rattle.book.specs.Cell.{free, holds}
 use Rattle.book.specs.Need.{absent, private, shared}
@@ -192,7 +191,7 @@ always = refl
 
 -- "Frames come from those free at entry, in page order": the write cuts page 0 out, which releases frame 15, and page 1 takes frame 12
 free_at_entry : frames (after (created 16 65536) (new_object 0 ∷ add 0 0 ∷ add 0 1 ∷ add 0 2 ∷ zero_out 0 4096 4096 ∷ write 0 4095 (1 ∷ 2 ∷ []) ∷ [])) 0
-    ≡ some 14 ∷ some 12 ∷ some 13 ∷ []
+    ≡ Some 14 ∷ Some 12 ∷ Some 13 ∷ []
 unfolding computing
 free_at_entry = refl
 

@@ -1,6 +1,5 @@
 -- Each object as a file of bytes, and what each call that is not refused makes of the files: "how each record reads as a file of its own".
-use Rattle.std.specs.Prelude.{Bool, true, false, ◌&&◌, ℕ, suc, ◌+◌, ◌-◌, ◌*◌, ◌/◌, ltb, leb, eqb, length, get_or}
-use Rattle.std.proofs.Math.Option.{Option, none, some}
+use Rattle.std.specs.Prelude.{Bool, true, false, ◌&&◌, ℕ, suc, ◌+◌, ◌-◌, ◌*◌, ◌/◌, ltb, leb, eqb, length, get_or, Option, Some, None}
 use Rattle.lists.specs.Test.{pick}
 use Rattle.ranges.specs.Range.{Slot, line, slot_at}
 use Rattle.book.specs.Page.{object_bytes, Span, span_of, whole_at, tail_at}
@@ -26,8 +25,8 @@ abbrev pub zeros : ℕ → ℕ → ℕ → Effect
 zeros o x e = record { object = o; first = x; past = e; value = λ y. 0 }
 
 abbrev pub is_none : Option Slot → Bool
-is_none none = true
-is_none (some s) = false
+is_none None = true
+is_none (Some s) = false
 
 -- no range covers the page of byte y of object s
 abbrev pub uncovered : Book → ℕ → ℕ → Bool

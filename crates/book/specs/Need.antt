@@ -1,6 +1,5 @@
 -- "Frames and range slots that a call needs", counted on the state at entry.
-use Rattle.std.proofs.Math.Option.{Option, none, some}
-use Rattle.std.specs.Prelude.{List, ℕ, zero, suc, ◌+◌, ◌*◌, ◌/◌, min, eqb, length}
+use Rattle.std.specs.Prelude.{List, ℕ, zero, suc, ◌+◌, ◌*◌, ◌/◌, min, eqb, length, Option, Some, None}
 use Rattle.lists.specs.Test.{pick}
 use Rattle.ranges.specs.Range.{Slot, line, slot_at}
 use Rattle.book.specs.Work.{is_shared, Work, page_of}
@@ -21,9 +20,9 @@ state_byte private = 1
 state_byte shared = 2
 
 abbrev pub state_in : Work → Option Slot → Option (List ℕ) → State
-state_in w none x = absent
-state_in w (some s) none = absent
-state_in w (some s) (some x) = pick (is_shared s.inside w.ranges) shared private
+state_in w None x = absent
+state_in w (Some s) None = absent
+state_in w (Some s) (Some x) = pick (is_shared s.inside w.ranges) shared private
 
 unfoldable pub state_of : ℕ → ℕ → Work → State
 state_of o p w = state_in w (slot_at (line o p) w.ranges) (page_of (line o p) w)

@@ -1,6 +1,5 @@
 -- Which pages are present, and which are so after each call that is not refused.
-use Rattle.std.specs.Prelude.{Bool, true, false, ◌&&◌, ℕ, ◌+◌, ◌-◌, ◌/◌, ltb, leb, eqb, length}
-use Rattle.std.proofs.Math.Option.{Option, none, some}
+use Rattle.std.specs.Prelude.{Bool, true, false, ◌&&◌, ℕ, ◌+◌, ◌-◌, ◌/◌, ltb, leb, eqb, length, Option, Some, None}
 use Rattle.lists.specs.Test.{pick}
 use Rattle.ranges.specs.Range.{line, slot_at}
 use Rattle.book.specs.Page.{object_bytes, touched, Span, span_of, whole_at}
@@ -9,8 +8,8 @@ use Rattle.book.specs.Copy.{equal_places}
 use Rattle.book.specs.Book.{Book, Call, new_object, drop_object, add, look_up, show, read, write, copy, shadow, zero_out, counts, entry}
 
 abbrev pub is_some : {A : Type 0} → Option A → Bool
-is_some none = false
-is_some (some x) = true
+is_some None = false
+is_some (Some x) = true
 
 -- "A page is covered if a range contains it, present if it also has a frame."
 abbrev pub covered : Book → ℕ → ℕ → Bool

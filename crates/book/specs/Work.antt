@@ -1,7 +1,6 @@
 -- The state inside a call, and the steps that work on one page.
-use Rattle.std.proofs.Math.Option.{Option, none, some}
 use mathlib.Core.List.{List, head_d, tail}
-use Rattle.std.specs.Prelude.{ℕ, suc, ◌-◌, ◌+◌, length, set, replicate, Bool, ◌&&◌, eqb, ltb, leb}
+use Rattle.std.specs.Prelude.{ℕ, suc, ◌-◌, ◌+◌, length, set, replicate, Bool, ◌&&◌, eqb, ltb, leb, Option, Some, None}
 use Rattle.lists.specs.Test.{pick}
 use Rattle.ranges.specs.Range.{Range, Slot, line, from, keep, slot_at, slot_in, covers, put, upto}
 use Rattle.ranges.specs.Table.{fresh, previous, holders}
@@ -21,8 +20,8 @@ next w = head_d w.spare (length w.cells)
 
 -- "Page p of a range is the vector's entry at offset + (p − start), or absent.": the bytes of the line's page g, if it is present
 abbrev pub slot_bytes : List Cell → Option Slot → Option (List ℕ)
-slot_bytes cs none = none
-slot_bytes cs (some s) = bytes_at s cs
+slot_bytes cs None = None
+slot_bytes cs (Some s) = bytes_at s cs
 
 unfoldable pub page_of : ℕ → Work → Option (List ℕ)
 page_of g w = slot_bytes w.cells (slot_at g w.ranges)
@@ -52,8 +51,8 @@ joins o p rs r =
 
 -- "Absent bytes read as zero."
 abbrev pub seen : ℕ → Option (List ℕ) → List ℕ
-seen size none = replicate size 0
-seen size (some x) = x
+seen size None = replicate size 0
+seen size (Some x) = x
 
 -- "A fresh frame is filled with zeros."
 abbrev pub blank : Work → List ℕ
@@ -72,17 +71,17 @@ add_in o p w r =
     (own o p (blank w) w))
 
 abbrev pub add_at : ℕ → ℕ → Work → Option Range → Work
-add_at o p w none = own o p (blank w) w
-add_at o p w (some r) = add_in o p w r
+add_at o p w None = own o p (blank w) w
+add_at o p w (Some r) = add_in o p w r
 
 unfoldable pub add_page : ℕ → ℕ → Work → Work
 add_page o p w = add_at o p w (previous (line o p) w.ranges)
 
 -- make page p of object o present and private: "if written or cleared, it starts with a copy of its bytes. An absent page written is first added."
 abbrev pub privately : ℕ → ℕ → Work → Option Slot → Option (List ℕ) → Work
-privately o p w none x = add_page o p w
-privately o p w (some s) none = add_page o p w
-privately o p w (some s) (some x) = pick (is_shared s.inside w.ranges) (own o p x w) w
+privately o p w None x = add_page o p w
+privately o p w (Some s) None = add_page o p w
+privately o p w (Some s) (Some x) = pick (is_shared s.inside w.ranges) (own o p x w) w
 
 unfoldable pub writable : ℕ → ℕ → Work → Work
 writable o p w =
@@ -90,8 +89,8 @@ writable o p w =
     privately o p w s (slot_bytes w.cells s)
 
 abbrev pub edited : Option Slot → (List ℕ → List ℕ) → Work → Work
-edited none f w = w
-edited (some s) f w = record { size = w.size; ranges = w.ranges; cells = edit s f w.cells; spare = w.spare }
+edited None f w = w
+edited (Some s) f w = record { size = w.size; ranges = w.ranges; cells = edit s f w.cells; spare = w.spare }
 
 -- write to page p of object o, "even to the bytes it has": its bytes are changed by f
 unfoldable pub write_page : ℕ → ℕ → (List ℕ → List ℕ) → Work → Work

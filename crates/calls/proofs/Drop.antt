@@ -18,9 +18,10 @@ use Rattle.store.specs.Kinds.{kinds_kept, cut_member, cut_agreed}
 use Rattle.store.specs.Stands.{Stay, stands_trimmed}
 use Rattle.store.specs.Idle.{idle_trimmed}
 use Rattle.store.specs.Live.{live_cleared}
+use Rattle.store.specs.Settle.{trimmed_length}
 use Rattle.store.specs.Good.{sound_table}
 use Rattle.store.specs.Back.{Besides, sound_besides}
-use Rattle.refuse.specs.Refuse.{refusal}
+use Rattle.refusals.specs.Refuse.{refusal}
 use Rattle.calls.specs.Calls.{Did, did_done}
 use Rattle.calls.specs.Kept.{was_sound, accepted, left_sound, still_sound}
 use Rattle.calls.specs.Drop.{Dropped}
@@ -81,6 +82,9 @@ module _ (s : Store) (o : ℕ) (Z : Sized s) (r : (x : List ℕ) → 0 ≡ refus
           bits = rw D.frames D.bits;
         }
 
+    sized : Sized t
+    sized = record { ranges = D.full; places = ap length D.places ∙ trimmed_length s.frames (ranges_of (used t)) s.places ∙ Z.places; free = D.bits.long }
+
     pub drop_done : Did (drop_object o) s 0 done t
     drop_done =
-        did_done (drop_object o) s done t r (still_sound (drop_object o) s r t Z (λ x. ap (λ d. d.book) (drop_does x)) besides) drop_does
+        did_done (drop_object o) s done t r (still_sound (drop_object o) s r t Z (λ x. ap (λ d. d.book) (drop_does x)) besides) (λ _. sized) drop_does

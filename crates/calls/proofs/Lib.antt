@@ -1,1 +1,2 @@
 pub mod Drop
+pub mod Used

@@ -18,7 +18,7 @@ use Rattle.store.specs.Live.{live_set}
 use Rattle.store.specs.Back.{Besides, sound_besides}
 use Rattle.look.specs.Look.{located, seen}
 use Rattle.look.specs.Found.{state_is, state_located}
-use Rattle.refuse.specs.Refuse.{refusal}
+use Rattle.refusals.specs.Refuse.{refusal}
 use Rattle.calls.specs.Calls.{Did, did_done, zero_sound}
 use Rattle.calls.specs.Kept.{was_sound, accepted, still_sound}
 
@@ -37,14 +37,14 @@ module _ (s : Store) (Z : Sized s) where
   unfolding perform book_of
   counts_done r n m e f =
       let S = was_sound counts s r in
-      did_done counts s (numbers n m) s r (zero_sound counts s [] (r []))
+      did_done counts s (numbers n m) s r (zero_sound counts s [] (r [])) (λ z. z)
       (λ x. ap₂ (λ a b. record { answer = numbers a b; book = book_of s x }) (sound_used s Z S 4096 x ∙ sym e) (book_count s S Z ∙ sym f))
 
   pub look_done : (o p : ℕ) → ((x : List ℕ) → 0 ≡ refusal s x (look_up o p)) → (t : State) → t ≡ seen s (located s (line o p)) → Did (look_up o p) s 0 (state (state_is t)) s
   unfolding perform
   look_done o p r t e =
       let S = was_sound (look_up o p) s r in
-      did_done (look_up o p) s (state (state_is t)) s r (zero_sound (look_up o p) s [] (r []))
+      did_done (look_up o p) s (state (state_is t)) s r (zero_sound (look_up o p) s [] (r [])) (λ z. z)
       (λ x. ap (λ a. record { answer = state a; book = book_of s x })
       (sym (ap state_is e ∙ state_located s (sound_table s Z S) (omega (arith, S.few_frames, Z.places)) o p x)))
 
@@ -62,4 +62,4 @@ module _ (s : Store) (Z : Sized s) where
       let t : Store = named (bit_or s.live (1 * 2 ^ o % 2 ^ 32)) in
       let B = sound_besides s Z S in
       let K : Besides t = record { few_ranges = B.few_ranges; kinds = B.kinds; agree = B.agree; rest_ranges = B.rest_ranges; rest_places = B.rest_places; bits = B.bits } in
-      did_done (new_object o) s done t r (still_sound (new_object o) s r t Z (λ x. ap (λ d. d.book) (new_does o l x)) K) (new_does o l)
+      did_done (new_object o) s done t r (still_sound (new_object o) s r t Z (λ x. ap (λ d. d.book) (new_does o l x)) K) (λ z. record { ranges = z.ranges; places = z.places; free = z.free }) (new_does o l)

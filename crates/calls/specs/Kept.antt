@@ -12,7 +12,7 @@ use Rattle.store.specs.Sound.{Sound, Sized, sound?}
 use Rattle.store.specs.Iff.{sound_says, says_sound}
 use Rattle.store.specs.Good.{sound_book}
 use Rattle.store.specs.Back.{Besides, store_sound}
-use Rattle.refuse.specs.Refuse.{refusal}
+use Rattle.refusals.specs.Refuse.{refusal}
 use Rattle.calls.specs.Calls.{zero_sound, sound_lowest}
 
 -- a call that is not refused with the pool x: the store is sound, and the book accepts the call

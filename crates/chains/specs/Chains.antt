@@ -34,9 +34,7 @@ module _ (P : ℕ → Bool) where
   last_same f (suc n) h =
       by-test (P n) (λ e. rw e) (λ e. rw e (last_same f n (λ k l. h k (omega arith)) ∙ sym (h n (omega arith) e)))
 
--- entries are in chains by number: entry k is in chain c k, and in none where that is 1,024 or more. Here by keys: the chain of an entry is that of its key's remainder
-abbrev pub keyed : List ℕ → ℕ → ℕ
-keyed ks k = get_or ks k 0 % 1024
+-- entries are in chains by number: entry k is in chain c k, and in none where that is 1,024 or more
 
 -- entry k is in chain h
 abbrev pub in_chain : (ℕ → ℕ) → ℕ → ℕ → Bool
@@ -111,32 +109,3 @@ module _ (c d : ℕ → ℕ) where
         let q : c i ≡ d i = e i l in
         C.next i l (omega arith) ∙ ap (λ (h : ℕ). last_below (in_chain c h) i) q ∙ last_alike (d i) i (λ k m. e k (omega arith));
   }
-
--- ---- heads and links in one list: the first 1,024 numbers are the heads
-pub linked_none : (c : ℕ → ℕ) → Chained c 0 (take 1024 (replicate 2048 0)) (drop 1024 (replicate 2048 0))
-unfolding last_below
-linked_none c = record {
-  heads = λ h l. get_or-take 1024 (replicate 2048 0) h 0 l ∙ get_or-replicate 2048 h 0 0 (omega arith);
-  next = λ i l. absurd (not-suc-le-zero l);
-}
-
-pub linked_next : (c : ℕ → ℕ) (l : List ℕ) (n h : ℕ) → length l ≡ 2048 → n < 1024 → h < 1024 → h ≡ c n → Chained c n (take 1024 l) (drop 1024 l)
-    → Chained c (n + 1) (take 1024 (set (set l (1024 + n) (get_or l h 0)) h (n + 1))) (drop 1024 (set (set l (1024 + n) (get_or l h 0)) h (n + 1)))
-linked_next c l n h long b low e C =
-    let x : ℕ = get_or l h 0 in
-    let p : take 1024 (set (set l (1024 + n) x) h (n + 1)) ≡ set (take 1024 l) h (n + 1) =
-    take-set-lt 1024 (set l (1024 + n) x) h (n + 1) low ∙ ap (λ (k : List ℕ). set k h (n + 1)) (take-set-le 1024 l (1024 + n) x (omega arith)) in
-    let q : drop 1024 (set (set l (1024 + n) x) h (n + 1)) ≡ set (drop 1024 l) n x =
-    drop-set-lt 1024 (set l (1024 + n) x) h (n + 1) low ∙ drop-set-add 1024 l n x in
-    let r : x ≡ get_or (take 1024 l) h 0 = sym (get_or-take 1024 l h 0 low) in
-    let N = chained_next c (take 1024 l) (drop 1024 l) n C (length-take-le 1024 l (omega arith)) (simp length-drop (omega arith)) (omega arith) in
-    rw (p, q, r, e) N
-
--- the link of an entry that was put into chain h leads to where the chain began
-pub linked_here : (l : List ℕ) (n h x y : ℕ) → length l ≡ 2048 → n < 1024 → h < 1024 → get_or (drop 1024 (set (set l (1024 + n) x) h y)) n 0 ≡ x
-linked_here l n h x y long b low =
-    get_or-drop 1024 (set (set l (1024 + n) x) h y) n 0 ∙ get_or-set_other (set l (1024 + n) x) h (1024 + n) y 0 (λ e. omega arith) ∙ get_or-set_same l (1024 + n) x 0 (omega arith)
-
--- a head leads to one of the n entries
-pub head_le : (c : ℕ → ℕ) (l : List ℕ) (n h : ℕ) → h < 1024 → Chained c n (take 1024 l) (drop 1024 l) → get_or l h 0 ≤ n
-head_le c l n h b C = omega (arith, sym (get_or-take 1024 l h 0 b) ∙ C.heads h b, last_le (in_chain c h) n)

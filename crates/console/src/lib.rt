@@ -133,10 +133,10 @@ impl Console {
 }
 
 // STANDARD INPUT, answered from a store and its pool.
-pub fn run(input: Stdin, s: Store, pool: &mut [u8]) {
+pub fn run(input: Stdin, store: Store, pool: &mut [u8]) {
     let mut chunk = io::large_buffer();
     let mut console = Console {
-        store: s,
+        store,
         held: ArrayVec::new(),
         out: ArrayVec::new(),
     };
@@ -145,8 +145,7 @@ pub fn run(input: Stdin, s: Store, pool: &mut [u8]) {
 
 // "The line program starts with a new store of 16 frames and reads lines .. from standard input".
 pub fn start(input: Stdin) {
-    let r = calls::create(16);
-    let s = r.store;
+    let store = calls::create(16).unwrap_or_else(|refused| refused.store);
     let mut pool = io::large_buffer();
-    run(input, s, &mut pool);
+    run(input, store, &mut pool);
 }

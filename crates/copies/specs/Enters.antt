@@ -22,7 +22,7 @@ use Rattle.places.specs.Places.{FreeMap}
 use Rattle.store.specs.Abs.{book_of}
 use Rattle.store.specs.Sound.{Sized}
 use Rattle.store.specs.Spare.{work_of, entry_work}
-use Rattle.refuse.specs.Refuse.{refusal}
+use Rattle.refusals.specs.Refuse.{refusal}
 use Rattle.calls.specs.Kept.{with_sound, with_accepted}
 use Rattle.calls.specs.With.{DidWith}
 use Rattle.pages.specs.Inside.{Inside}

@@ -1,22 +1,20 @@
 // Runs copies and shadow copies where the last frame or the last slot is taken, and where too few are free. Answers are written by hand from document 01. One line a case.
 #![tactic(auto)]
 
-ghost use Rattle.std.specs.Prelude.{◌≤◌};
+ghost use Rattle.std.specs.Prelude.{◌+◌, ◌≤◌, length};
 
-use access_samples::{five, free, fresh, high, leaves, paged, pair, small, stand, table, unused};
-use copy_samples::{copied, copy_turned, packed, turned};
-use samples::{full_table, many, place, report, single};
+use access_samples::{done, five, fresh, high, paged, small};
+use copy_samples::{across, copied, copy, copy_turned, packed, rows, shadow, turned};
+use refusals::{Passage, Refusal};
+use samples::{FREE, full_table, many, place, report, single};
 use store::Store;
 use table::PageRange;
 
 // Both calls leave this store, and the pool as it was.
-fn both(name: &[u8], s: Store, from: usize, to: usize, n: usize, t: Store) {
-    let mut pool = five();
-    let r = copies::copy_ranges(s, &mut pool, 0, from, 1, to, n);
-    let want = five();
-    let k = leaves(r, t) & check::same(&pool, &want);
-    let q = copies::copy_range_to_shadow(s, &pool, 0, from, 1, to, n);
-    report(name, k & leaves(q, t));
+fn both(name: &str, s: Store, passage: Passage, t: Store) {
+    let copied = done(|pool| copy(s, pool, passage), t, &five());
+    let shadowed = done(|pool| shadow(s, pool, passage), t, &five());
+    report(name, copied && shadowed);
 }
 
 // ---- the last frame
@@ -24,65 +22,50 @@ fn both(name: &[u8], s: Store, from: usize, to: usize, n: usize, t: Store) {
 fn one_free() {
     let a = many(0, 0, 3, 0, 2);
     let b = single(1, 9, 1, 0, 3);
-    let q = table(a, many(1, 0, 3, 0, 1), b, unused(), unused());
-    let p = stand(free(), place(3, 0), place(1, 2), place(1, 1), place(1, 0));
-    let s = small(3, 3, q, p, 1);
+    let p = [FREE, place(3, 0), place(1, 2), place(1, 1), place(1, 0)];
+    let s = small(3, &[a, many(1, 0, 3, 0, 1), b], &p, 1);
     copy_turned(
-        b"8: parts of two private pages, one frame free",
+        "8: parts of two private pages, one frame free",
         s,
-        4000,
-        4000,
-        4202,
-        8,
+        across(4000, 4000, 4202),
+        Refusal::NoFrame,
     );
-    let r = table(
+    let r = [
         a,
         many(1, 0, 1, 0, 1),
         many(1, 1, 1, 1, 2),
         many(1, 2, 1, 2, 1),
         b,
-    );
-    let v = stand(free(), place(3, 0), place(1, 2), free(), place(1, 0));
+    ];
+    let p = [FREE, place(3, 0), place(1, 2), FREE, place(1, 0)];
+    let t = small(3, &r, &p, 9);
     let mut want = five();
     pool::fill(&mut want, 20384, 96, 0);
-    copied(
-        b"part of one, one frame free",
-        s,
-        4000,
-        4000,
-        4192,
-        small(3, 5, r, v, 9),
-        &want,
-    );
+    let passage = across(4000, 4000, 4192);
+    copied("part of one, one frame free", s, passage, t, &want);
 }
 
 // Page 0 of object 0 in frame 4, and frame 0 free.
 fn one_free_unequal() {
     let a = single(0, 0, 1, 0, 1);
     let b = many(0, 100, 3, 0, 2);
-    let p = stand(free(), place(2, 0), place(2, 1), place(2, 2), place(1, 0));
-    let s = small(3, 2, pair(a, b), p, 1);
+    let mut p = [FREE, place(2, 0), place(2, 1), place(2, 2), place(1, 0)];
+    let s = small(3, &[a, b], &p, 1);
     copy_turned(
-        b"8: unequal places in two absent pages, one frame free",
+        "8: unequal places in two absent pages, one frame free",
         s,
-        0,
-        1,
-        4096,
-        8,
+        across(0, 1, 4096),
+        Refusal::NoFrame,
     );
-    let r = table(a, b, single(1, 0, 1, 0, 3), unused(), unused());
-    let mut v = p;
-    v[0] = place(3, 0);
-    let t = small(3, 3, r, v, 0);
+    p[0] = place(3, 0);
+    let t = small(3, &[a, b, single(1, 0, 1, 0, 3)], &p, 0);
     let mut want = five();
     pool::fill(&mut want, 1, 4095, 5);
     want[0] = 0;
     copied(
-        b"unequal places in one, one frame free",
+        "unequal places in one, one frame free",
         s,
-        0,
-        1,
-        4095,
+        across(0, 1, 4095),
         t,
         &want,
     );
@@ -90,200 +73,151 @@ fn one_free_unequal() {
 
 fn no_frame() {
     let s = paged();
-    copy_turned(b"8: bytes to an uncovered page", s, 0, 0, 10, 8);
-    copy_turned(b"8: a byte to another place of it", s, 0, 1, 1, 8);
+    let why = Refusal::NoFrame;
+    let bytes = across(0, 0, 10);
+    copy_turned("8: bytes to an uncovered page", s, bytes, why);
+    let byte = across(0, 1, 1);
+    copy_turned("8: a byte to another place of it", s, byte, why);
     copy_turned(
-        b"8: part of an uncovered page and a whole one",
+        "8: part of an uncovered page and a whole one",
         s,
-        4000,
-        4000,
-        4192,
-        8,
+        across(4000, 4000, 4192),
+        why,
     );
-    copy_turned(b"8: parts of nothing beside 1 GiB", s, 1, 1, 1073741822, 8);
+    let parts = across(1, 1, 1073741822);
+    copy_turned("8: parts of nothing beside 1 GiB", s, parts, why);
 }
 
 // Page 0 of both objects in frame 4, the other frames in use.
 fn no_frame_shared() {
-    let a = single(0, 0, 1, 0, 1);
-    let r = table(
-        a,
+    let a = [
+        single(0, 0, 1, 0, 1),
         single(1, 0, 1, 0, 1),
         many(1, 9, 4, 0, 2),
-        unused(),
-        unused(),
-    );
-    let p = stand(
+    ];
+    let p = [
         place(2, 0),
         place(2, 1),
         place(2, 2),
         place(2, 3),
         place(1, 0),
-    );
-    let s = small(3, 3, r, p, 0);
-    copy_turned(b"8: a byte to a shared page", s, 5, 5, 1, 8);
+    ];
+    let s = small(3, &a, &p, 0);
+    let why = Refusal::NoFrame;
+    copy_turned("8: a byte to a shared page", s, across(5, 5, 1), why);
     copy_turned(
-        b"8: a byte to another place of a shared page",
+        "8: a byte to another place of a shared page",
         s,
-        5,
-        6,
-        1,
-        8,
+        across(5, 6, 1),
+        why,
     );
-    both(
-        b"no frame free: a shared page copied again",
-        s,
-        0,
-        0,
-        4096,
-        s,
-    );
+    let page = across(0, 0, 4096);
+    both("no frame free: a shared page copied again", s, page, s);
 }
 
 // Pages 0 and 1 of object 1 are the same page, and frame 3 alone is free.
 fn no_frame_twice() {
-    let a = single(1, 0, 1, 0, 1);
-    let r = table(
-        a,
+    let a = [
+        single(1, 0, 1, 0, 1),
         single(1, 1, 1, 0, 1),
         many(1, 100, 3, 0, 2),
-        unused(),
-        unused(),
-    );
-    let p = stand(place(2, 0), place(2, 1), place(2, 2), free(), place(1, 0));
-    let s = small(3, 3, r, p, 8);
+    ];
+    let p = [place(2, 0), place(2, 1), place(2, 2), FREE, place(1, 0)];
+    let s = small(3, &a, &p, 8);
+    let why = Refusal::NoFrame;
     copy_turned(
-        b"8: two pages count that would take one frame",
+        "8: two pages count that would take one frame",
         s,
-        4095,
-        4095,
-        2,
-        8,
+        across(4095, 4095, 2),
+        why,
     );
-    copy_turned(b"8: and at unequal places", s, 0, 4095, 2, 8);
+    copy_turned("8: and at unequal places", s, across(0, 4095, 2), why);
 }
 
 // ---- the last slot
-// Every other page of object 0 as far as slot 507, and these; page 0 is in frame 4.
-fn rows(count: usize, a: PageRange, b: PageRange, c: PageRange, d: PageRange) -> Store {
-    let mut t = full_table();
-    t[508] = a;
-    t[509] = b;
-    t[510] = c;
-    t[511] = d;
-    small(3, count, t, high(free(), place(1, 0)), 15)
+// The first slots of a full table, its page 0 in frame 4, and these ranges behind them.
+fn slots(first: usize, last: &[PageRange]) -> Store
+    requires { first + length last.now ≤ 512 }
+{
+    rows(first, last, &high(FREE, place(1, 0)), 15)
 }
 
-// The row of slot k.
-fn row(k: u32) -> PageRange
-    requires { k ≤ 512 }
+// The same where page 0 or 1 of object 1 has frame 3.
+fn slots_then(first: usize, last: &[PageRange]) -> Store
+    requires { first + length last.now ≤ 512 }
 {
-    many(0, k as usize * 2, 1, k, 1)
+    rows(first, last, &high(place(2, 0), place(1, 0)), 7)
 }
 
 fn no_slot() {
     let s = packed();
-    turned(b"9: a page, 512 ranges", s, 0, 0, 4096, 9);
-    turned(b"9: 1 GiB, 512 ranges", s, 0, 0, 1073741824, 9);
-    copy_turned(b"9: bytes to an absent page, 512 ranges", s, 0, 0, 10, 9);
+    let why = Refusal::NoSlot;
+    turned("9: a page, 512 ranges", s, across(0, 0, 4096), why);
+    let all = across(0, 0, 1073741824);
+    turned("9: 1 GiB, 512 ranges", s, all, why);
+    let bytes = across(0, 0, 10);
+    copy_turned("9: bytes to an absent page, 512 ranges", s, bytes, why);
     copy_turned(
-        b"9: a byte to another place of it, 512 ranges",
+        "9: a byte to another place of it, 512 ranges",
         s,
-        0,
-        1,
-        1,
-        9,
+        across(0, 1, 1),
+        why,
     );
-    both(b"512 ranges: a page of nothing", s, 4096, 4096, 4096, s);
-    both(b"512 ranges: nothing copied", s, 0, 0, 0, s);
-    let p = stand(
-        place(1, 4),
-        place(1, 3),
-        place(1, 2),
-        place(1, 1),
-        place(1, 0),
-    );
-    let t = small(3, 512, full_table(), p, 0);
-    copy_turned(b"8 comes before 9", t, 0, 0, 10, 8);
+    let page = across(4096, 4096, 4096);
+    both("512 ranges: a page of nothing", s, page, s);
+    both("512 ranges: nothing copied", s, across(0, 0, 0), s);
+    let t = small(3, &full_table(), &paged().places, 0);
+    copy_turned("8 comes before 9", t, bytes, Refusal::NoFrame);
 }
 
 fn two_slots() {
-    let s = rows(511, row(508), row(509), row(510), unused());
-    turned(b"9: a page, 511 ranges", s, 0, 0, 4096, 9);
-    copy_turned(
-        b"9: bytes to an absent page, 511 ranges",
-        s,
-        4096,
-        4096,
-        10,
-        9,
-    );
-    let t = rows(510, row(508), row(509), unused(), unused());
-    let u = rows(511, row(508), row(509), many(1, 0, 1, 0, 1), unused());
-    both(b"510 ranges: a page", t, 0, 0, 4096, u);
-    let v = rows(511, row(508), row(509), single(1, 1, 1, 0, 2), unused());
-    let q = v.ranges;
-    let w = small(3, 511, q, high(place(2, 0), place(1, 0)), 7);
-    let want = fresh(3, 12288, 0);
+    let s = slots(511, &[]);
+    let why = Refusal::NoSlot;
+    let page = across(0, 0, 4096);
+    turned("9: a page, 511 ranges", s, page, why);
+    let bytes = across(4096, 4096, 10);
+    copy_turned("9: bytes to an absent page, 511 ranges", s, bytes, why);
+    let s = slots(510, &[]);
+    let t = slots(510, &[many(1, 0, 1, 0, 1)]);
+    both("510 ranges: a page", s, page, t);
     copied(
-        b"510 ranges: bytes to an absent page",
-        t,
-        4096,
-        4096,
-        10,
-        w,
-        &want,
+        "510 ranges: bytes to an absent page",
+        s,
+        bytes,
+        slots_then(510, &[single(1, 1, 1, 0, 2)]),
+        &fresh(3, 12288, 0),
     );
 }
 
 // Pages 0 to 2 of object 0 are two ranges.
 fn four_slots() {
-    let s = rows(509, row(508), unused(), unused(), unused());
-    turned(b"9: two source ranges, 509 ranges", s, 0, 0, 12288, 9);
-    let t = rows(508, unused(), unused(), unused(), unused());
-    let u = rows(
-        510,
-        many(1, 0, 1, 0, 1),
-        many(1, 2, 1, 1, 1),
-        unused(),
-        unused(),
-    );
-    both(b"508 ranges: two source ranges", t, 0, 0, 12288, u);
+    let pages = across(0, 0, 12288);
+    let s = slots(509, &[]);
+    let why = Refusal::NoSlot;
+    turned("9: two source ranges, 509 ranges", s, pages, why);
+    let t = slots(508, &[many(1, 0, 1, 0, 1), many(1, 2, 1, 1, 1)]);
+    both("508 ranges: two source ranges", slots(508, &[]), pages, t);
 }
 
 // 96 bytes of page 1, which is not covered, and page 2.
 fn four_slots_part() {
-    let s = rows(509, row(508), unused(), unused(), unused());
+    let passage = across(8096, 8096, 4192);
     copy_turned(
-        b"9: part of a page and the next, 509 ranges",
-        s,
-        8096,
-        8096,
-        4192,
-        9,
+        "9: part of a page and the next, 509 ranges",
+        slots(509, &[]),
+        passage,
+        Refusal::NoSlot,
     );
-    let t = rows(508, unused(), unused(), unused(), unused());
-    let v = rows(
-        510,
-        single(1, 1, 1, 0, 2),
-        many(1, 2, 1, 1, 1),
-        unused(),
-        unused(),
-    );
-    let q = v.ranges;
-    let w = small(3, 510, q, high(place(2, 0), place(1, 0)), 7);
-    let want = fresh(3, 12288, 0);
     copied(
-        b"508 ranges: part of a page and the next",
-        t,
-        8096,
-        8096,
-        4192,
-        w,
-        &want,
+        "508 ranges: part of a page and the next",
+        slots(508, &[]),
+        passage,
+        slots_then(508, &[single(1, 1, 1, 0, 2), many(1, 2, 1, 1, 1)]),
+        &fresh(3, 12288, 0),
     );
 }
 
+// The parts, one after another. By hand: a table of them would be one of function pointers.
 fn main() {
     one_free();
     one_free_unequal();

@@ -1,114 +1,115 @@
 // What the programs that run copies, shadow copies and zeroing share: cases that are done, and cases that are refused.
 #![tactic(auto)]
 
-ghost use Rattle.std.specs.Prelude.{◌≤◌, length};
+ghost use Rattle.std.specs.Prelude.{◌≡◌, ◌+◌, ◌≤◌, length};
 
-use access_samples::{five, free, high, leaves, small};
-use samples::{full_table, gives, place, report};
+use access_samples::{done, five, high, refused, small};
+use places::Place;
+use refusals::{Extent, Passage, Refusal};
+use samples::{FREE, full_table, place, report};
 use store::Store;
+use table::PageRange;
 
 // ---- a store
+// The first slots of a full table, these ranges behind them, and these places.
+pub fn rows(first: usize, last: &[PageRange], places: &[Place], w: u64) -> Store
+    requires ranges { first + length last.now ≤ 512 }
+    requires places { length places.now ≤ 1024 }
+{
+    let mut table = full_table();
+    let end = first + last.len();
+    table[first..end].copy_from_slice(last);
+    small(3, &table[..end], places, w)
+}
+
 // A table without an unused slot, its page 0 in frame 4.
 pub fn packed() -> Store {
-    small(3, 512, full_table(), high(free(), place(1, 0)), 15)
+    rows(512, &[], &high(FREE, place(1, 0)), 15)
+}
+
+// ---- the calls
+// n bytes of object 0, to object 1.
+pub fn across(from: usize, to: usize, n: usize) -> Passage
+    ensures { result ≡ record { source = 0; from = from; object = 1; to = to; n = n } }
+{
+    Passage {
+        source: 0,
+        from,
+        object: 1,
+        to,
+        n,
+    }
+}
+
+pub fn copy(s: Store, pool: &mut [u8], p: Passage) -> Result<Store, Refusal> {
+    copies::copy_ranges(s, pool, p.source, p.from, p.object, p.to, p.n)
+}
+
+pub fn shadow(s: Store, pool: &[u8], p: Passage) -> Result<Store, Refusal> {
+    copies::copy_range_to_shadow(s, pool, p.source, p.from, p.object, p.to, p.n)
+}
+
+pub fn zero(s: Store, pool: &mut [u8], e: Extent) -> Result<Store, Refusal> {
+    copies::zero_ranges(s, pool, e.object, e.offset, e.n)
 }
 
 // ---- one case a line, on the pool of five frames
-// The copy from object 0 to object 1 is done and leaves this store and this pool.
-pub fn copied(name: &[u8], s: Store, from: usize, to: usize, n: usize, t: Store, want: &[u8]) {
-    let mut pool = five();
-    let r = copies::copy_ranges(s, &mut pool, 0, from, 1, to, n);
-    report(name, leaves(r, t) & check::same(&pool, want));
+// The copy is done and leaves this store and this pool.
+pub fn copied(name: &str, s: Store, passage: Passage, t: Store, want: &[u8; 20480]) {
+    report(name, done(|pool| copy(s, pool, passage), t, want));
 }
 
 // It leaves this store, and the pool as it was.
-pub fn quiet(name: &[u8], s: Store, from: usize, to: usize, n: usize, t: Store) {
-    let want = five();
-    copied(name, s, from, to, n, t, &want);
+pub fn quiet(name: &str, s: Store, passage: Passage, t: Store) {
+    copied(name, s, passage, t, &five());
 }
 
 // The shadow copy is done and leaves this store.
-pub fn shadows(name: &[u8], s: Store, from: usize, to: usize, n: usize, t: Store) {
-    let pool = five();
-    let r = copies::copy_range_to_shadow(s, &pool, 0, from, 1, to, n);
-    report(name, leaves(r, t));
+pub fn shadows(name: &str, s: Store, passage: Passage, t: Store) {
+    report(name, done(|pool| shadow(s, pool, passage), t, &five()));
 }
 
 // The zeroing is done and leaves this store and this pool.
-pub fn zeroes(name: &[u8], s: Store, object: u32, offset: usize, n: usize, t: Store, want: &[u8]) {
-    let mut pool = five();
-    let r = copies::zero_ranges(s, &mut pool, object, offset, n);
-    report(name, leaves(r, t) & check::same(&pool, want));
+pub fn zeroes(name: &str, s: Store, extent: Extent, t: Store, want: &[u8; 20480]) {
+    report(name, done(|pool| zero(s, pool, extent), t, want));
 }
 
 // The zeroing leaves this store, and the pool as it was.
-pub fn uncovers(name: &[u8], s: Store, object: u32, offset: usize, n: usize, t: Store) {
-    let want = five();
-    zeroes(name, s, object, offset, n, t, &want);
+pub fn uncovers(name: &str, s: Store, extent: Extent, t: Store) {
+    zeroes(name, s, extent, t, &five());
 }
 
-// ---- refusals, where the first m bytes of a pool of sevens are lent: store and pool stay
-pub fn copy_lent(
-    s: Store,
-    pool: &mut [u8],
-    m: usize,
-    source: u32,
-    from: usize,
-    object: u32,
-    to: usize,
-    n: usize,
-    number: u8,
-) -> bool
-    requires { m ≤ length pool.old }
-{
-    let r = copies::copy_ranges(s, &mut pool[0..m], source, from, object, to, n);
-    gives(r, number, s)
-}
-
-pub fn copy_refused(
-    s: Store,
-    m: usize,
-    source: u32,
-    from: usize,
-    object: u32,
-    to: usize,
-    n: usize,
-    number: u8,
-) -> bool
+// ---- refusals, where the first m bytes of a pool of sevens are lent: the pool stays
+pub fn copy_refused(s: Store, m: usize, passage: Passage, why: Refusal) -> bool
     requires { m ≤ 24576 }
 {
-    let mut pool = [7u8; 24576];
-    let want = [7u8; 24576];
-    let k = copy_lent(s, &mut pool, m, source, from, object, to, n, number);
-    k & check::same(&pool, &want)
+    refused(|pool| copy(s, pool, passage), m, why)
 }
 
-pub fn shadow_refused(
-    s: Store,
-    m: usize,
-    source: u32,
-    from: usize,
-    object: u32,
-    to: usize,
-    n: usize,
-    number: u8,
-) -> bool
+pub fn shadow_refused(s: Store, m: usize, passage: Passage, why: Refusal) -> bool
     requires { m ≤ 24576 }
 {
-    let pool = [7u8; 24576];
-    let r = copies::copy_range_to_shadow(s, &pool[0..m], source, from, object, to, n);
-    gives(r, number, s)
+    refused(|pool| shadow(s, pool, passage), m, why)
 }
 
-// One case a line, from object 0 to object 1: by copy_ranges, and by both calls.
-pub fn copy_turned(name: &[u8], s: Store, from: usize, to: usize, n: usize, number: u8) {
-    report(name, copy_refused(s, 20480, 0, from, 1, to, n, number));
+pub fn zero_refused(s: Store, m: usize, extent: Extent, why: Refusal) -> bool
+    requires { m ≤ 24576 }
+{
+    refused(|pool| zero(s, pool, extent), m, why)
 }
 
-pub fn turned(name: &[u8], s: Store, from: usize, to: usize, n: usize, number: u8) {
-    let k = copy_refused(s, 20480, 0, from, 1, to, n, number);
-    report(
-        name,
-        k & shadow_refused(s, 20480, 0, from, 1, to, n, number),
-    );
+// By both calls.
+pub fn both_refused(s: Store, m: usize, passage: Passage, why: Refusal) -> bool
+    requires { m ≤ 24576 }
+{
+    copy_refused(s, m, passage, why) && shadow_refused(s, m, passage, why)
+}
+
+// One case a line, on five frames: by copy_ranges, and by both calls.
+pub fn copy_turned(name: &str, s: Store, passage: Passage, why: Refusal) {
+    report(name, copy_refused(s, 20480, passage, why));
+}
+
+pub fn turned(name: &str, s: Store, passage: Passage, why: Refusal) {
+    report(name, both_refused(s, 20480, passage, why));
 }

@@ -4,7 +4,7 @@
 use table::PageRange;
 
 // A table of ranges: the first `count` slots are used.
-#[derive(Clone, Copy)]
+#[derive(Clone, Copy, PartialEq, Eq)]
 pub struct RangeTable {
     pub ranges: [PageRange; 512],
     pub count: usize,

@@ -4,6 +4,7 @@
 ghost use Rattle.std.specs.Prelude.{◌+◌, ◌*◌, ◌≤◌, ◌<◌};
 
 use page::PageNumber;
+use refusals::Refusal;
 use store::Store;
 
 // So many pages of a record, from its page `first` on.
@@ -157,152 +158,157 @@ impl<'a> Filling<'a> {
         Filling { store, pool }
     }
 
-    fn add(&mut self, object: u32, page: usize) {
-        self.store = access::add(self.store, self.pool, object, PageNumber(page)).store;
+    fn add(&mut self, object: u32, page: usize) -> Result<(), Refusal> {
+        self.store = access::add(self.store, self.pool, object, PageNumber(page))?.store;
+        Ok(())
     }
 
-    fn copy(&mut self, from: Pages, object: u32, page: usize)
+    fn copy(&mut self, from: Pages, object: u32, page: usize) -> Result<(), Refusal>
         requires { page ≤ 262144 }
     {
         let at = from.first * PageNumber::PAGE_SIZE;
         let to = page * PageNumber::PAGE_SIZE;
         let n = from.count * PageNumber::PAGE_SIZE;
-        self.store = copies::copy_ranges(
-            self.store,
-            self.pool,
-            from.object,
-            at,
-            object,
-            to,
-            n,
-        ).store;
+        self.store = copies::copy_ranges(self.store, self.pool, from.object, at, object, to, n)?;
+        Ok(())
     }
 
     // One byte to a page.
-    fn write(&mut self, object: u32, page: usize)
+    fn write(&mut self, object: u32, page: usize) -> Result<(), Refusal>
         requires { page ≤ 1048576 }
     {
         let at = page * PageNumber::PAGE_SIZE;
-        self.store = access::write(self.store, self.pool, object, at, &[1]).store;
+        self.store = access::write(self.store, self.pool, object, at, &[1])?;
+        Ok(())
     }
 
     // The wanted pages of those, in rising order: one range.
-    fn run(&mut self, pages: Pages, every: usize)
+    fn run(&mut self, pages: Pages, every: usize) -> Result<(), Refusal>
         requires { 0 < every }
     {
         for q in 0..pages.count {
             if wanted(q, pages.count, every) {
-                self.add(pages.object, pages.first + q);
+                self.add(pages.object, pages.first + q)?;
             }
         }
+        Ok(())
     }
 
     // The pages of a covered range that are not there yet.
-    fn rest(&mut self, pages: Pages, order: Order) {
+    fn rest(&mut self, pages: Pages, order: Order) -> Result<(), Refusal> {
         for i in 0..pages.count {
             let q = order.place(i, pages.count);
             if !wanted(q, pages.count, 16) {
-                self.add(pages.object, pages.first + q);
+                self.add(pages.object, pages.first + q)?;
             }
         }
+        Ok(())
     }
 
     // One range, all of its pages present.
-    fn range(&mut self, pages: Pages, order: Order) {
+    fn range(&mut self, pages: Pages, order: Order) -> Result<(), Refusal> {
         match order {
             Order::Rising => self.run(pages, 1),
             Order::Scattered | Order::Falling => {
-                self.run(pages, 16);
-                self.rest(pages, order);
+                self.run(pages, 16)?;
+                self.rest(pages, order)
             }
         }
     }
 
-    fn ranges(&mut self, own: Parts, order: Order) {
+    fn ranges(&mut self, own: Parts, order: Order) -> Result<(), Refusal> {
         for i in 0..own.ranges {
-            self.range(own.apart(i), order);
+            self.range(own.apart(i), order)?;
         }
+        Ok(())
     }
 
     // Ranges beside those with pages of their own: copies of all of those but the first, in turn.
-    fn copied_ranges(&mut self, own: Parts, more: usize)
+    fn copied_ranges(&mut self, own: Parts, more: usize) -> Result<(), Refusal>
         requires { 1 < own.ranges }
     {
         for k in 0..more {
             let i = 1 + k % (own.ranges - 1);
-            self.copy(own.apart(i), 8 + object_of(k), page_of(k));
+            self.copy(own.apart(i), 8 + object_of(k), page_of(k))?;
         }
+        Ok(())
     }
 
     // More pages behind range 0: no range more.
-    fn longer(&mut self, own: Parts, more: usize)
+    fn longer(&mut self, own: Parts, more: usize) -> Result<(), Refusal>
         requires { more ≤ 1024 }
     {
-        self.run(Pages::new(0, own.size(0), more), 1);
+        self.run(Pages::new(0, own.size(0), more), 1)
     }
 
     // Four more ranges and one more frame: range 1, of three pages or more, copied twice to record 17, and page 1 of the copy cut out by a write.
-    fn crowded(&mut self, own: Parts) {
+    fn crowded(&mut self, own: Parts) -> Result<(), Refusal> {
         let range = Pages::new(1, 0, own.size(1));
-        self.copy(range, 17, 0);
-        self.copy(range, 17, 192);
-        self.write(17, 1);
+        self.copy(range, 17, 0)?;
+        self.copy(range, 17, 192)?;
+        self.write(17, 1)
     }
 
     // One byte written to each `step`th page of record 1, from page 1 on: each is cut out as a range of its own.
-    fn cut_up(&mut self, cuts: usize, step: usize)
+    fn cut_up(&mut self, cuts: usize, step: usize) -> Result<(), Refusal>
         requires { (cuts ≤ 512) × (step ≤ 1024) }
     {
         for k in 0..cuts {
-            self.write(1, 1 + k * step);
+            self.write(1, 1 + k * step)?;
         }
+        Ok(())
     }
 }
 
 // Names 0 to 30.
-pub fn empty() -> Store {
-    let mut s = calls::create(1024).store;
+pub fn empty() -> Result<Store, Refusal> {
+    let mut s = calls::create(1024).map_err(|n| n.refusal)?;
     for object in 0..31 {
-        s = calls::new_object(s, object).store;
+        s = calls::new_object(s, object)?;
     }
-    s
+    Ok(s)
 }
 
 // So many frames and ranges in use; the pages of each range added in the order named.
-pub fn filled(pool: &mut [u8], fill: Fill, order: Order) -> Store {
-    let mut f = Filling::new(empty(), pool);
+pub fn filled(pool: &mut [u8], fill: Fill, order: Order) -> Result<Store, Refusal> {
+    let mut f = Filling::new(empty()?, pool);
     let own = fill.own();
-    f.ranges(own, order);
-    f.copied_ranges(own, fill.ranges.saturating_sub(own.ranges));
-    f.store
+    f.ranges(own, order)?;
+    f.copied_ranges(own, fill.ranges.saturating_sub(own.ranges))?;
+    Ok(f.store)
 }
 
 // Such a store filled up: six frames and four ranges more, where there are none to spare.
-pub fn full(s: Store, pool: &mut [u8], fill: Fill) -> Store {
+pub fn full(s: Store, pool: &mut [u8], fill: Fill) -> Result<Store, Refusal> {
     let mut f = Filling::new(s, pool);
     let own = fill.own();
     let crowded = 508 <= fill.ranges;
     if 1018 <= fill.frames {
-        f.longer(own, 6 - usize::from(crowded));
+        f.longer(own, 6 - usize::from(crowded))?;
     }
     if crowded {
-        f.crowded(own);
+        f.crowded(own)?;
     }
-    f.store
+    Ok(f.store)
 }
 
 // ---- one backing held by many ranges
 // Record 0 has one range, its pages added in the order named; record 1 is a copy of it, cut up evenly: 2 × cuts + 2 ranges, of which cuts + 2 hold one backing.
-pub fn shared_by_many(pool: &mut [u8], frames: usize, cuts: usize, order: Order) -> Store
+pub fn shared_by_many(
+    pool: &mut [u8],
+    frames: usize,
+    cuts: usize,
+    order: Order,
+) -> Result<Store, Refusal>
     requires { (frames ≤ 1024) × (0 < cuts) × (cuts ≤ 255) × (cuts < frames) }
 {
-    let mut f = Filling::new(empty(), pool);
+    let mut f = Filling::new(empty()?, pool);
     let n = frames - cuts;
     let whole = Pages::new(0, 0, n);
-    f.range(whole, order);
-    f.copy(whole, 1, 0);
-    f.cut_up(cuts, n / cuts);
-    f.store
+    f.range(whole, order)?;
+    f.copy(whole, 1, 0)?;
+    f.cut_up(cuts, n / cuts)?;
+    Ok(f.store)
 }
 
 // The k-th of some pages of a record in a scattered order.
@@ -315,65 +321,65 @@ fn scattered(k: usize) -> usize
 
 // Record 0 has one range of 2 × pieces pages; each second one is copied to a page of record 1, in a scattered order: so many ranges hold one backing, and neither pages nor
 // slots tell where an index of it is.
-pub fn scattered_pieces(pool: &mut [u8], pieces: usize) -> Store
+pub fn scattered_pieces(pool: &mut [u8], pieces: usize) -> Result<Store, Refusal>
     requires { pieces ≤ 512 }
 {
-    let mut f = Filling::new(empty(), pool);
-    f.run(Pages::new(0, 0, 2 * pieces), 1);
+    let mut f = Filling::new(empty()?, pool);
+    f.run(Pages::new(0, 0, 2 * pieces), 1)?;
     for k in 0..pieces {
-        f.copy(Pages::new(0, 2 * k, 1), 1, scattered(k));
+        f.copy(Pages::new(0, 2 * k, 1), 1, scattered(k))?;
     }
-    f.store
+    Ok(f.store)
 }
 
 // A record 0 of one range, as `record` makes it with each sixteenth of 8,192 pages present; its last 1,792 pages are copied to record 2, and so many single ones of the first
 // to record 1, in a scattered order: a long window beside short ones of one backing.
-pub fn long_and_short(pool: &mut [u8], pieces: usize) -> Store
+pub fn long_and_short(pool: &mut [u8], pieces: usize) -> Result<Store, Refusal>
     requires { pieces ≤ 400 }
 {
-    let mut f = Filling::new(empty(), pool);
-    f.run(Pages::new(0, 0, 8192), 16);
-    f.copy(Pages::new(0, 6400, 1792), 2, 0);
+    let mut f = Filling::new(empty()?, pool);
+    f.run(Pages::new(0, 0, 8192), 16)?;
+    f.copy(Pages::new(0, 6400, 1792), 2, 0)?;
     for k in 0..pieces {
-        f.copy(Pages::new(0, 16 * k, 1), 1, scattered(k));
+        f.copy(Pages::new(0, 16 * k, 1), 1, scattered(k))?;
     }
-    f.store
+    Ok(f.store)
 }
 
 // Record 0 has one range of 1,024 pages, its frames in a scattered order; so many parts of it, 512 pages each, are copied to records 1 and 2, from pages in a scattered order:
 // windows of one backing that overlap.
-pub fn overlapping(pool: &mut [u8], pieces: usize) -> Store
+pub fn overlapping(pool: &mut [u8], pieces: usize) -> Result<Store, Refusal>
     requires { pieces ≤ 500 }
 {
-    let mut f = Filling::new(empty(), pool);
-    f.range(Pages::new(0, 0, 1024), Order::Scattered);
+    let mut f = Filling::new(empty()?, pool);
+    f.range(Pages::new(0, 0, 1024), Order::Scattered)?;
     for k in 0..pieces {
         let from = Pages::new(0, k * 337 % 509, 512);
-        f.copy(from, 1 + (k / 250) as u32, k % 250 * 600);
+        f.copy(from, 1 + (k / 250) as u32, k % 250 * 600)?;
     }
-    f.store
+    Ok(f.store)
 }
 
 // ---- records
 // Record 0: ranges that cover all those pages, of which each `every`th of a range and the last are present.
-pub fn record(pool: &mut [u8], parts: Parts, every: usize) -> Store
+pub fn record(pool: &mut [u8], parts: Parts, every: usize) -> Result<Store, Refusal>
     requires { (parts.ranges ≤ 512) × (0 < every) }
 {
-    let mut f = Filling::new(empty(), pool);
+    let mut f = Filling::new(empty()?, pool);
     for j in 0..parts.ranges {
-        f.run(parts.in_record(j), every);
+        f.run(parts.in_record(j), every)?;
     }
-    f.store
+    Ok(f.store)
 }
 
 // A record in ranges that adjoin, from the last range to the first: no range stands before a page that is added.
-pub fn adjoining(s: Store, pool: &mut [u8], object: u32, parts: Parts) -> Store {
+pub fn adjoining(s: Store, pool: &mut [u8], object: u32, parts: Parts) -> Result<Store, Refusal> {
     let mut f = Filling::new(s, pool);
     let mut at = parts.pages;
     for i in (0..parts.ranges).rev() {
         let n = parts.size(i).min(at);
         at -= n;
-        f.run(Pages::new(object, at, n), 1);
+        f.run(Pages::new(object, at, n), 1)?;
     }
-    f.store
+    Ok(f.store)
 }

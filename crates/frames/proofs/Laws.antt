@@ -1,4 +1,5 @@
 -- What the search for the highest free frame needs: the highest bit of the last word that is not 0 is the highest of all.
+use Rattle.std.specs.Prelude.{Some, None}
 use mathlib.Core.Path.{◌≡◌, refl, ap, ◌∙◌}
 use mathlib.Core.Logic.{⊎_elim}
 use mathlib.Core.List.{List}
@@ -9,7 +10,6 @@ use native.Mathlib.Omega.{arith}
 use borrow.Author.Tests.{eq-eqb}
 use lib.ListN.{get_or}
 use lib.Pow.{pow_mono}
-use Rattle.frames.specs.declared.Frame.TheVariants.{At, Nothing}
 use Rattle.frames.specs.Free.{Top, free_bit, highest_below}
 use Rattle.frames.specs.Bits.{zero_bit}
 
@@ -27,7 +27,7 @@ bit_above w r g h l =
     let k : r + 1 ≤ g = omega arith in
     ap (λ (k : ℕ). k % 2) (div-eq_of_lt (lt_of_lt_of_le h (pow_mono k)))
 
-highest_at : (ws : List ℕ) (n f : ℕ) → f < n → free_bit ws f ≡ 1 → ((g : ℕ) → f < g → g < n → free_bit ws g ≡ 0) → highest_below ws n ≡ At f
+highest_at : (ws : List ℕ) (n f : ℕ) → f < n → free_bit ws f ≡ 1 → ((g : ℕ) → f < g → g < n → free_bit ws g ≡ 0) → highest_below ws n ≡ Some f
 unfolding highest_below
 highest_at ws zero f h e above = absurd (not-suc-le-zero h)
 highest_at ws (suc n) f h e above =
@@ -36,14 +36,14 @@ highest_at ws (suc n) f h e above =
     (λ (q : f < n). rw (above n q (omega arith)) (highest_at ws n f q e (λ g a b. above g a (omega arith))))
     (eq-or-lt_of_le (le_of_suc-le-suc h))
 
-highest_nowhere : (ws : List ℕ) (n : ℕ) → ((g : ℕ) → g < n → free_bit ws g ≡ 0) → highest_below ws n ≡ Nothing
+highest_nowhere : (ws : List ℕ) (n : ℕ) → ((g : ℕ) → g < n → free_bit ws g ≡ 0) → highest_below ws n ≡ None
 unfolding highest_below
 highest_nowhere ws zero none = refl
 highest_nowhere ws (suc n) none = rw (none n (omega arith)) (highest_nowhere ws n (λ g a. none g (omega arith)))
 
 -- the words above i are 0, and b is the place of word i's highest bit: the highest free frame
 pub highest_word : (ws : List ℕ) (i b : ℕ) → i < 16 → Top (get_or ws i 0) b → ((k : ℕ) → i < k → k < 16 → get_or ws k 0 ≡ 0)
-    → highest_below ws 1024 ≡ At (i * 64 + b)
+    → highest_below ws 1024 ≡ Some (i * 64 + b)
 unfolding free_bit
 highest_word ws i b h t above =
     let s = t.small in
@@ -56,7 +56,7 @@ highest_word ws i b h t above =
     (eq-or-lt_of_le (omega arith)))
 
 -- all words are 0: no frame is free
-pub highest_zero : (ws : List ℕ) → ((k : ℕ) → k < 16 → get_or ws k 0 ≡ 0) → highest_below ws 1024 ≡ Nothing
+pub highest_zero : (ws : List ℕ) → ((k : ℕ) → k < 16 → get_or ws k 0 ≡ 0) → highest_below ws 1024 ≡ None
 highest_zero ws none = highest_nowhere ws 1024 (λ g h. zero_bit ws g (none (g / 64) (omega arith)))
 
 -- what leading zeros say of a word

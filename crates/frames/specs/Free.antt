@@ -1,11 +1,9 @@
 -- "a map of free frames, one bit each, in sixteen words of 64. The frame handed out is the highest-numbered free one, and the number of free
 -- frames is the count of set bits." The words are a list ws of numbers below 2 ^ 64.
-use Rattle.std.specs.Prelude.{◌≡◌, Bool, List, [], ◌∷◌, ℕ, zero, suc, ◌+◌, ◌-◌, ◌/◌, ◌%◌, ◌^◌, ◌≤◌, ◌<◌, eqb, get_or, length, set}
+use Rattle.std.specs.Prelude.{◌≡◌, Bool, List, [], ◌∷◌, ℕ, zero, suc, ◌+◌, ◌-◌, ◌/◌, ◌%◌, ◌^◌, ◌≤◌, ◌<◌, eqb, get_or, length, set, Option, Some, None}
 use Rattle.std.specs.Int.Bits.{bit_and, bit_or}
 use Rattle.std.specs.Int.Count.{ones}
 use Rattle.lists.specs.Test.{pick}
-use Rattle.frames.specs.declared.Frame.{Frame}
-use Rattle.frames.specs.declared.Frame.TheVariants.{At, Nothing}
 
 -- bit f of the map, 1 where frame f is free
 unfoldable pub free_bit : List ℕ → ℕ → ℕ
@@ -15,9 +13,9 @@ abbrev pub is_free : List ℕ → ℕ → Bool
 is_free ws f = eqb (free_bit ws f) 1
 
 -- "The frame handed out is the highest-numbered free one": the highest below n
-unfoldable pub highest_below : List ℕ → ℕ → Frame
-highest_below ws zero = Nothing
-highest_below ws (suc n) = pick (is_free ws n) (At n) (highest_below ws n)
+unfoldable pub highest_below : List ℕ → ℕ → Option ℕ
+highest_below ws zero = None
+highest_below ws (suc n) = pick (is_free ws n) (Some n) (highest_below ws n)
 
 -- "the number of free frames is the count of set bits"
 abbrev pub free_count : List ℕ → ℕ
@@ -30,9 +28,9 @@ spare_of ws zero = []
 spare_of ws (suc n) = pick (is_free ws n) (n ∷ spare_of ws n) (spare_of ws n)
 
 -- the first of a list of frames
-abbrev pub head_of : List ℕ → Frame
-head_of [] = Nothing
-head_of (f ∷ fs) = At f
+abbrev pub head_of : List ℕ → Option ℕ
+head_of [] = None
+head_of (f ∷ fs) = Some f
 
 -- every frame is below the one before it, and the first is below n
 unfoldable pub Falling : ℕ → List ℕ → Type 0

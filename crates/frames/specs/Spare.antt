@@ -1,5 +1,5 @@
 -- The free map as the run book's list of free frames, the highest first.
-use Rattle.std.specs.Prelude.{◌≡◌, false}
+use Rattle.std.specs.Prelude.{◌≡◌, false, Some, None}
 use Rattle.std.proofs.Math.Path.{refl}
 use Rattle.std.proofs.Common.{ap, sym, ◌∙◌, eqb-true}
 use mathlib.Core.List.{List, [], ◌∷◌, tail}
@@ -7,7 +7,6 @@ use Prim.Native.Nat.{ℕ, zero, suc, ◌+◌, ◌≤◌, ◌<◌}
 use native.Mathlib.Omega.{arith}
 use Rattle.lists.specs.Test.{by-test}
 use Rattle.lists.specs.Every.{All}
-use Rattle.frames.specs.declared.Frame.TheVariants.{At, Nothing}
 use Rattle.frames.specs.Free.{Falling, TakenOut, free_bit, head_of, highest_below, is_free, spare_of}
 
 -- ---- maps with the same bits have the same list
@@ -22,11 +21,11 @@ unfolding Falling
 falling_wider m n [] h f = tt
 falling_wider m n (x ∷ xs) h f = (let l = f.0 in omega arith, f.1)
 
-head_is : (l : List ℕ) (f : ℕ) → head_of l ≡ At f → l ≡ f ∷ tail l
+head_is : (l : List ℕ) (f : ℕ) → head_of l ≡ Some f → l ≡ f ∷ tail l
 head_is [] f e = absurd (let z : ◌≡◌ {A = ℕ} 0 1 = cc in omega arith)
 head_is (x ∷ xs) f e = let q : x ≡ f = cc in ap (λ k. k ∷ xs) q
 
-none_is : (l : List ℕ) → head_of l ≡ Nothing → l ≡ []
+none_is : (l : List ℕ) → head_of l ≡ None → l ≡ []
 none_is [] e = refl
 none_is (x ∷ xs) e = absurd (let z : ◌≡◌ {A = ℕ} 0 1 = cc in omega arith)
 
@@ -63,7 +62,7 @@ module _ (ws : List ℕ) where
   highest_head (suc n) = by-test (is_free ws n) (λ t. rw t) (λ t. rw t (highest_head n))
 
   -- a frame is found: it is the head, below n, and its bit is set
-  pub highest_found : (n f : ℕ) → highest_below ws n ≡ At f → (spare_of ws n ≡ f ∷ tail (spare_of ws n)) × (f < n) × (free_bit ws f ≡ 1)
+  pub highest_found : (n f : ℕ) → highest_below ws n ≡ Some f → (spare_of ws n ≡ f ∷ tail (spare_of ws n)) × (f < n) × (free_bit ws f ≡ 1)
   unfolding Falling All
   highest_found n f e =
       let q : spare_of ws n ≡ f ∷ tail (spare_of ws n) = head_is (spare_of ws n) f (sym (highest_head n) ∙ e) in
@@ -72,20 +71,20 @@ module _ (ws : List ℕ) where
       (q, a.0, b.0)
 
   -- none is found: the list is empty
-  pub highest_none : (n : ℕ) → highest_below ws n ≡ Nothing → spare_of ws n ≡ []
+  pub highest_none : (n : ℕ) → highest_below ws n ≡ None → spare_of ws n ≡ []
   highest_none n e = none_is (spare_of ws n) (sym (highest_head n) ∙ e)
 
 -- ---- the highest free frame taken out of the map leaves the tail
-pub spare_taken : (ws r : List ℕ) (n f : ℕ) → TakenOut ws f r → highest_below ws n ≡ At f → spare_of r n ≡ tail (spare_of ws n)
+pub spare_taken : (ws r : List ℕ) (n f : ℕ) → TakenOut ws f r → highest_below ws n ≡ Some f → spare_of r n ≡ tail (spare_of ws n)
 unfolding highest_below spare_of
 spare_taken ws r zero f t e = absurd (let z : ◌≡◌ {A = ℕ} 0 1 = cc in omega arith)
 spare_taken ws r (suc n) f t e =
     by-test (is_free ws n)
-    (λ s. let p : At n ≡ At f = rw s at e in
+    (λ s. let p : Some n ≡ Some f = rw s at e in
     let q : n ≡ f = cc in
     let o : free_bit r n ≡ 0 = ap (free_bit r) q ∙ t.clear in
     rw (s, o) (spare_ext r ws n (λ k l. t.others k (λ z. omega arith))))
-    (λ s. let p : highest_below ws n ≡ At f = rw s at e in
+    (λ s. let p : highest_below ws n ≡ Some f = rw s at e in
     let l : f < n = (highest_found ws n f p).1 in
     let o : free_bit r n ≡ free_bit ws n = t.others n (λ z. omega arith) in
     rw (o, s) (spare_taken ws r n f t p))

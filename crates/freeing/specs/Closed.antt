@@ -8,7 +8,7 @@ use Rattle.store.specs.declared.Store.{Store}
 use Rattle.lists.specs.Test.{by-test}
 use Rattle.places.specs.Places.{FreeMap, nowhere, place_at}
 use Rattle.places.specs.Map.{Vacant, vacant_more, vacant_same}
-use Rattle.sheet.specs.Sheet.{with_free}
+use Rattle.store.specs.With.{with_free}
 
 -- store t is s but for its free map, which is that of the places
 abbrev pub Closed : Store → Store → Type 0

@@ -26,7 +26,14 @@ fn free_word(places: &[Place; 1024], frames: usize, first: usize) -> u64
 fn vacant_frames(places: &[Place]) -> usize
     ensures { result ≡ count_by is_vacant places.now }
 {
-    places.iter().filter(|p| p.backing == 0).count()
+    // by hand: `filter` and `count` go place by place, this loop by several at once
+    let mut vacant = 0;
+    for p in places {
+        if p.backing == 0 {
+            vacant += 1;
+        }
+    }
+    vacant
 }
 
 // The word of the free map again: words of used frames alone, and of free ones alone, are made at once.

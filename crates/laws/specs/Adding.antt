@@ -1,7 +1,6 @@
 -- ADDING A PAGE: the frame handed out is the highest-numbered free one, the answer names it, and afterwards the page is in it.
-use Rattle.std.specs.Prelude.{◌≡◌, refl, ℕ, zero, suc, ◌+◌, ◌≤◌, ◌<◌, length, get_or, set}
+use Rattle.std.specs.Prelude.{◌≡◌, refl, ℕ, zero, suc, ◌+◌, ◌≤◌, ◌<◌, length, get_or, set, Some, None}
 use Rattle.std.proofs.Common.{ap, ◌∙◌, ⊎_elim, le_refl, not-suc-le-zero, arith, eq-eqb}
-use Rattle.std.proofs.Math.Option.{none, some}
 use mathlib.Core.List.Memᴰ
 use mathlib.Core.List.{List, [], ◌∷◌, head_d, tail, Memᴰ}
 use Rattle.std.proofs.Math.ListN.{length-map}
@@ -46,20 +45,20 @@ spare_first cs (f ∷ fs) d s h = record {
 -- ---- where it stands
 
 -- a cell set at a slot that no cell is at is the slot's frame
-frame_here : (s : Slot) (x : List ℕ) (cs : List Cell) (n f : ℕ) → f < length cs → bytes_at s cs ≡ none → frame_at s n (set cs f (holds s.inside s.index x)) ≡ some (n + f)
+frame_here : (s : Slot) (x : List ℕ) (cs : List Cell) (n f : ℕ) → f < length cs → bytes_at s cs ≡ None → frame_at s n (set cs f (holds s.inside s.index x)) ≡ Some (n + f)
 unfolding bytes_at frame_at
 frame_here s x [] n f h e = absurd (not-suc-le-zero h)
-frame_here s x (c ∷ cs) n zero h e = rw (eq-eqb s.inside s.inside refl, eq-eqb s.index s.index refl) (ap some (omega arith))
-frame_here s x (free ∷ cs) n (suc f) h e = frame_here s x cs (suc n) f (omega arith) e ∙ ap some (omega arith)
+frame_here s x (c ∷ cs) n zero h e = rw (eq-eqb s.inside s.inside refl, eq-eqb s.index s.index refl) (ap Some (omega arith))
+frame_here s x (free ∷ cs) n (suc f) h e = frame_here s x cs (suc n) f (omega arith) e ∙ ap Some (omega arith)
 frame_here s x (holds b i y ∷ cs) n (suc f) h e =
     by-test (is_at s (holds b i y))
-    (λ t. absurd (let z : some y ≡ none = rw t at e in let u : ◌≡◌ {A = ℕ} 0 1 = cc in omega arith))
-    (λ t. rw t (frame_here s x cs (suc n) f (omega arith) (rw t at e) ∙ ap some (omega arith)))
+    (λ t. absurd (let z : Some y ≡ None = rw t at e in let u : ◌≡◌ {A = ℕ} 0 1 = cc in omega arith))
+    (λ t. rw t (frame_here s x cs (suc n) f (omega arith) (rw t at e) ∙ ap Some (omega arith)))
 
 -- the page names the frame taken
-fresh_frame : (o p : ℕ) (w v : Work) → Settled o p w (blank w) v → next w < length w.cells → frame_in v.cells (slot_at (line o p) v.ranges) ≡ some (next w)
+fresh_frame : (o p : ℕ) (w v : Work) → Settled o p w (blank w) v → next w < length w.cells → frame_in v.cells (slot_at (line o p) v.ranges) ≡ Some (next w)
 unfolding settle
-fresh_frame o p w v F h = rw F.is (rw (put_hit F.n (line o p) w.ranges F.settles.low F.settles.high) (frame_here s (blank w) (vacate s cs) 0 (next w) l (vacate_here s cs) ∙ ap some (omega arith)))
+fresh_frame o p w v F h = rw F.is (rw (put_hit F.n (line o p) w.ranges F.settles.low F.settles.high) (frame_here s (blank w) (vacate s cs) 0 (next w) l (vacate_here s cs) ∙ ap Some (omega arith)))
   where
     s : Slot
     s = slot_in (line o p) F.n
@@ -78,7 +77,7 @@ pub record Added (b : Book) (o p : ℕ) (a : Answer) (c : Book) : Type 0 where
   pub is : a ≡ added frame
   pub first : First b.cells (free_frames b) frame
   -- and afterwards the page names it
-  pub names : frame_of c o p ≡ some frame
+  pub names : frame_of c o p ≡ Some frame
 
 -- "The frame handed out is the highest-numbered free one"
 pub add_law : (b : Book) → Sound b → (o p : ℕ) → Accepted b (add o p) → Added b o p (step b (add o p)).answer (step b (add o p)).book
@@ -91,5 +90,5 @@ add_law b S o p e = rw (accepted_step b (add o p) e) (record { frame = next w; i
     one : First b.cells (free_frames b) (next (entry b))
     one = unfold entry in spare_first b.cells (free_frames b) (length b.cells) (free_spare b.cells) (add_rows b o p e).room.frames
 
-    named : frame_of (perform b (add o p)).book o p ≡ some (next (entry b))
+    named : frame_of (perform b (add o p)).book o p ≡ Some (next (entry b))
     named = unfold frame_of in fresh_frame o p w (add_page o p w) (add_page_settled o p w (good b S).whole (omega (arith, (add_rows b o p e).ends, pages_few b S))) (spare_room w (good b S).whole (add_rows b o p e).room.frames)

@@ -1,7 +1,6 @@
 -- The count of a call's needs may stop at frames + 1 pages: it refuses exactly where the full count does, and is else the full count.
-use Rattle.std.specs.Prelude.{◌≡◌, refl, ◌⊎◌, List, [], ◌∷◌, ltb, length}
+use Rattle.std.specs.Prelude.{◌≡◌, refl, ◌⊎◌, List, [], ◌∷◌, ltb, length, Some}
 use Rattle.std.proofs.Common.{ap, sym, ◌∙◌, inl, inr, ⊎_elim, arith, lt-ltb}
-use Rattle.std.proofs.Math.Option.{some}
 use Prim.Native.Nat.{ℕ, zero, suc, ◌+◌, ◌/◌, ◌≤◌, ◌<◌, min, zero-le}
 use Rattle.std.proofs.Math.ListN.{length-map}
 use Rattle.lists.specs.Test.{by-test, by-eq, by-lt}
@@ -20,7 +19,7 @@ use Rattle.laws.specs.Count.{in_use_vacate}
 use Rattle.laws.specs.Enough.{Ready, ready_wants, wants_small, wants_ready}
 
 -- a slot that holds bytes is vacated: fewer frames are in use
-vacate_less : (s : Slot) (x : List ℕ) (cs : List Cell) → bytes_at s cs ≡ some x → in_use (vacate s cs) < in_use cs
+vacate_less : (s : Slot) (x : List ℕ) (cs : List Cell) → bytes_at s cs ≡ Some x → in_use (vacate s cs) < in_use cs
 unfolding in_use vacate bytes_at
 vacate_less s x [] e = absurd (let z : ◌≡◌ {A = ℕ} 0 1 = cc in omega arith)
 vacate_less s x (free ∷ cs) e = vacate_less s x cs e
@@ -41,7 +40,7 @@ without_whole s w W =
 abbrev home : (g : ℕ) (w : Work) → Alone g w → Slot
 home g w A = slot_in g A.r
 
-home_slot : (g : ℕ) (w : Work) → Ordered w → (A : Alone g w) → slot_at g w.ranges ≡ some (home g w A)
+home_slot : (g : ℕ) (w : Work) → Ordered w → (A : Alone g w) → slot_at g w.ranges ≡ Some (home g w A)
 home_slot g w W A = slot_mem 0 g A.r w.ranges W.rising A.mem A.low A.high
 
 -- two pages held alone are at two slots

@@ -1,7 +1,7 @@
 -- The laws of cells: what trimming, vacating, editing and setting a cell leave at another slot.
-use Rattle.std.specs.Prelude.{◌≡◌, refl, true, false, List, [], ◌∷◌, ℕ, zero, suc, ◌<◌, eqb, length, set, get_or, ◌⊎◌}
+use Rattle.std.specs.Option.{option_map}
+use Rattle.std.specs.Prelude.{◌≡◌, refl, true, false, List, [], ◌∷◌, ℕ, zero, suc, ◌<◌, eqb, length, set, get_or, ◌⊎◌, Some, None}
 use Rattle.std.proofs.Common.{sym, ◌∙◌, true≢false, arith, not-suc-le-zero, length-set, eq-eqb, eqb-true, inr, inl, get_or-set_same, get_or-set_other}
-use Rattle.std.proofs.Math.Option.{none, some, map}
 use Rattle.std.proofs.Math.ListN.{get_or-map, get_or-eq_default}
 use Rattle.lists.specs.Test.{by-test, and_left, and_right, by-eq, by-lt}
 use Rattle.ranges.specs.Range.{Range, Slot}
@@ -81,26 +81,26 @@ unfolding vacate
 vacate_free s cs f e = get_or-map (emptied s) cs f free ∙ rw e
 
 -- what stands at the slot itself
-pub edit_here : (s : Slot) (f : List ℕ → List ℕ) (cs : List Cell) → bytes_at s (edit s f cs) ≡ map f (bytes_at s cs)
+pub edit_here : (s : Slot) (f : List ℕ → List ℕ) (cs : List Cell) → bytes_at s (edit s f cs) ≡ option_map f (bytes_at s cs)
 unfolding edit bytes_at
 edit_here s f [] = refl
 edit_here s f (free ∷ cs) = edit_here s f cs
 edit_here s f (holds b i x ∷ cs) = by-test (is_at s (holds b i x)) (λ e. rw e (rw e)) (λ e. rw e (rw e (edit_here s f cs)))
 
-pub vacate_here : (s : Slot) (cs : List Cell) → bytes_at s (vacate s cs) ≡ none
+pub vacate_here : (s : Slot) (cs : List Cell) → bytes_at s (vacate s cs) ≡ None
 unfolding vacate bytes_at
 vacate_here s [] = refl
 vacate_here s (free ∷ cs) = vacate_here s cs
 vacate_here s (holds b i x ∷ cs) = by-test (is_at s (holds b i x)) (λ e. rw e (vacate_here s cs)) (λ e. rw e (rw e (vacate_here s cs)))
 
-pub set_here : (s : Slot) (x : List ℕ) (cs : List Cell) (f : ℕ) → f < length cs → bytes_at s cs ≡ none → bytes_at s (set cs f (holds s.inside s.index x)) ≡ some x
+pub set_here : (s : Slot) (x : List ℕ) (cs : List Cell) (f : ℕ) → f < length cs → bytes_at s cs ≡ None → bytes_at s (set cs f (holds s.inside s.index x)) ≡ Some x
 unfolding bytes_at
 set_here s x [] f h e = absurd (not-suc-le-zero h)
 set_here s x (c ∷ cs) zero h e = rw (eq-eqb s.inside s.inside refl, eq-eqb s.index s.index refl)
 set_here s x (free ∷ cs) (suc f) h e = set_here s x cs f (omega arith) e
 set_here s x (holds b i y ∷ cs) (suc f) h e =
     by-test (is_at s (holds b i y))
-    (λ t. absurd (let z : some y ≡ none = rw t at e in let u : ◌≡◌ {A = ℕ} 0 1 = cc in omega arith))
+    (λ t. absurd (let z : Some y ≡ None = rw t at e in let u : ◌≡◌ {A = ℕ} 0 1 = cc in omega arith))
     (λ t. rw t (set_here s x cs f (omega arith) (rw t at e)))
 
 -- ---- which cells are in use afterwards: frame f holds index i of backing b, with the bytes x
@@ -122,18 +122,18 @@ pub record Edited (g : List ℕ → List ℕ) (f b i : ℕ) (y : List ℕ) (cs :
   pub was : get_or cs f free ≡ holds b i old
   pub new : (y ≡ old) ⊎ (y ≡ g old)
 
-pub bytes_frame : (s : Slot) (x : List ℕ) (cs : List Cell) → bytes_at s cs ≡ some x → At s x cs
+pub bytes_frame : (s : Slot) (x : List ℕ) (cs : List Cell) → bytes_at s cs ≡ Some x → At s x cs
 unfolding bytes_at
 bytes_frame s x [] e = absurd (let z : ◌≡◌ {A = ℕ} 0 1 = cc in omega arith)
 bytes_frame s x (free ∷ cs) e = at_tail (bytes_frame s x cs e)
 bytes_frame s x (holds b i y ∷ cs) e =
     by-test (is_at s (holds b i y))
     (λ t. let q = same_slot s b i y t in
-    let z : some y ≡ some x = rw t at e in
+    let z : Some y ≡ Some x = rw t at e in
     record { frame = 0; is = λ k. holds (q.0 k) (q.1 k) (some_path y x z k) })
     (λ t. at_tail (bytes_frame s x cs (rw t at e)))
   where
-    some_path : (y x : List ℕ) → some y ≡ some x → y ≡ x
+    some_path : (y x : List ℕ) → Some y ≡ Some x → y ≡ x
     some_path y x z = cc
 
 pub trim_at : (rs : List Range) (cs : List Cell) (f b i : ℕ) (x : List ℕ) → get_or (trim rs cs) f free ≡ holds b i x

@@ -1,7 +1,6 @@
 -- The parts of a copy, as changes of files: bytes read and written, whole pages shared; for any page size.
-use Rattle.std.specs.Prelude.{◌≡◌, refl, List, ℕ, ◌+◌, ◌-◌, ◌*◌, ◌/◌, ◌%◌, ◌≤◌, ◌<◌, length, get_or}
+use Rattle.std.specs.Prelude.{◌≡◌, refl, List, ℕ, ◌+◌, ◌-◌, ◌*◌, ◌/◌, ◌%◌, ◌≤◌, ◌<◌, length, get_or, Option, Some, None}
 use Rattle.std.proofs.Common.{ap, sym, ◌∙◌, arith, add-mul, div-add-mod', mod-lt}
-use Rattle.std.proofs.Math.Option.{Option, none, some}
 use Rattle.lists.specs.Test.{pick}
 use Rattle.ranges.specs.Range.{Slot, line, slot_at}
 use Rattle.book.specs.Page.{touched}
@@ -71,8 +70,8 @@ module _ (s p o q n : ℕ) (w : Work) (W : Good w) (hs : 4096 ≤ w.size) (other
       page = ap (λ m. m / w.size) at ∙ page_div w.size (p + j) r (mod-lt z pos)
 
       go : (t : Option Slot) → get_or (seen w.size (from_source t (page_of (line s (p + j)) w) (page_of (line o (q + j)) w))) r 0 ≡ pick (is_none t) (byte_at o z w) (byte_at s c w)
-      go none = sym (byte_from o q z w.size w refl pos l)
-      go (some t) = sym (ap (λ m. byte_at s m w) at ∙ at_place s (p + j) r w.size w refl (mod-lt z pos))
+      go None = sym (byte_from o q z w.size w refl pos l)
+      go (Some t) = sym (ap (λ m. byte_at s m w) at ∙ at_place s (p + j) r w.size w refl (mod-lt z pos))
 
   pages_copied : Rewrites o (q * w.size) ((q + n) * w.size) (λ z. shared_byte w s (p * w.size + (z - q * w.size)) o z) w (sharing s p o q n w)
   pages_copied =

@@ -1,7 +1,6 @@
 -- What the parts of a call take: frames, range slots, and frames in use.
-use Rattle.std.specs.Prelude.{◌≡◌, refl, List, [], ◌∷◌, map, ℕ, zero, suc, ◌+◌, ◌-◌, ◌*◌, ◌/◌, ◌%◌, ◌≤◌, ◌<◌, min, eqb, length, take, drop, replicate}
+use Rattle.std.specs.Prelude.{◌≡◌, refl, List, [], ◌∷◌, map, ℕ, zero, suc, ◌+◌, ◌-◌, ◌*◌, ◌/◌, ◌%◌, ◌≤◌, ◌<◌, min, eqb, length, take, drop, replicate, Option, Some, None}
 use Rattle.std.proofs.Common.{ap, inl, inr, arith, ne_eqb, eq-eqb}
-use Rattle.std.proofs.Math.Option.{Option, none, some}
 use Rattle.std.proofs.lemmas.List.{length-map}
 use Rattle.lists.specs.Test.{pick, by-test, by-lt, by-eq}
 use Rattle.ranges.specs.Range.{Range, Slot, line, slot_in, slot_at, carve, Rising, put}
@@ -77,8 +76,8 @@ in_use_edit s f (holds b i x ∷ cs) = by-test (is_at s (holds b i x)) (λ t. rw
 
 -- new bytes in a page take nothing
 pub edited_cost : (t : Option Slot) (f : List ℕ → List ℕ) (w : Work) → Cost 0 0 w (edited t f w)
-edited_cost none f w = cost_none w
-edited_cost (some s) f w = record { spare = omega arith; ranges = omega arith; used = omega (arith, in_use_edit s f w.cells) }
+edited_cost None f w = cost_none w
+edited_cost (Some s) f w = record { spare = omega arith; ranges = omega arith; used = omega (arith, in_use_edit s f w.cells) }
 
 module _ (o p : ℕ) (w : Work) (W : Ordered w) (hp : p < 262144) where
   -- a page added: one frame, two slots
@@ -136,8 +135,8 @@ module _ (o x : ℕ) (w : Work) (G : Good w) (hs : 4096 ≤ w.size) where
       c = common (state_of o (x / w.size) w)
 
       go : 0 < n → (t : Option (List ℕ)) → page_of (line o (x / w.size)) w ≡ t → Pages c w (cleared o (x / w.size) (x % w.size) n w t)
-      go l none e = cost_less 0 0 c (2 * c) w w (omega arith) (omega arith) (cost_none w)
-      go l (some y) e =
+      go l None e = cost_less 0 0 c (2 * c) w w (omega arith) (omega arith) (cost_none w)
+      go l (Some y) e =
           rw (← present_wants o (x / w.size) w y e)
           (write_page_cost o (x / w.size) w G.whole (page_in w.size x n hs l h) (over (x % w.size) (replicate n 0)))
 

@@ -1,8 +1,8 @@
 -- The frames counted at a call's entry are enough: "no frame" comes exactly by the count, and then every page is written.
+use Rattle.std.specs.Option.{option_map}
 use Rattle.std.proofs.Math.Path.{◌≡◌, refl, ap}
 use Rattle.std.proofs.Common.{◌∙◌, inl, le_refl, not-suc-le-zero, add-zero, arith, ltb-false, le-ltb}
-use Rattle.std.proofs.Math.Option.{Option, none, some, map}
-use Rattle.std.specs.Prelude.{List, length, take, drop}
+use Rattle.std.specs.Prelude.{List, length, take, drop, Option, Some, None}
 use Prim.Native.Nat.{ℕ, zero, suc, ◌+◌, ◌-◌, ◌≤◌, ◌<◌, zero-le}
 use Rattle.lists.specs.Test.{by-test, by-eq}
 use Rattle.ranges.specs.Range.{Slot, line, slot_at}
@@ -22,7 +22,7 @@ use Rattle.laws.specs.Write.{write_from_out}
 pub record Ready (g : ℕ) (w : Work) : Type 0 where
   pub alone : Alone g w
   pub bytes : List ℕ
-  pub has : page_of g w ≡ some bytes
+  pub has : page_of g w ≡ Some bytes
 
 pub ready_wants : (o p : ℕ) (w : Work) → Ordered w → Ready (line o p) w → wants o p w ≡ 0
 unfolding wants state_of
@@ -35,18 +35,18 @@ unfolding wants state_of
 wants_small o p w = go (slot_at (line o p) w.ranges) (page_of (line o p) w)
   where
     go : (s : Option Slot) (x : Option (List ℕ)) → lacks (state_in w s x) ≤ 1
-    go none x = le_refl 1
-    go (some s) none = le_refl 1
-    go (some s) (some x) = by-test (is_shared s.inside w.ranges) (λ t. rw t (le_refl 1)) (λ t. rw t zero-le)
+    go None x = le_refl 1
+    go (Some s) None = le_refl 1
+    go (Some s) (Some x) = by-test (is_shared s.inside w.ranges) (λ t. rw t (le_refl 1)) (λ t. rw t zero-le)
 
 -- a present page wants a frame exactly if it is shared
-pub present_wants : (o p : ℕ) (w : Work) (y : List ℕ) → page_of (line o p) w ≡ some y → wants o p w ≡ common (state_of o p w)
+pub present_wants : (o p : ℕ) (w : Work) (y : List ℕ) → page_of (line o p) w ≡ Some y → wants o p w ≡ common (state_of o p w)
 unfolding wants state_of page_of
 present_wants o p w y e = go (slot_at (line o p) w.ranges) e
   where
-    go : (s : Option Slot) → slot_bytes w.cells s ≡ some y → lacks (state_in w s (slot_bytes w.cells s)) ≡ common (state_in w s (slot_bytes w.cells s))
-    go none f = absurd (let z : ◌≡◌ {A = ℕ} 0 1 = cc in omega arith)
-    go (some s) f = rw f (by-test (is_shared s.inside w.ranges) (λ t. rw t) (λ t. rw t))
+    go : (s : Option Slot) → slot_bytes w.cells s ≡ Some y → lacks (state_in w s (slot_bytes w.cells s)) ≡ common (state_in w s (slot_bytes w.cells s))
+    go None f = absurd (let z : ◌≡◌ {A = ℕ} 0 1 = cc in omega arith)
+    go (Some s) f = rw f (by-test (is_shared s.inside w.ranges) (λ t. rw t) (λ t. rw t))
 
 -- a page that wants nothing is ready, and is left as it is
 pub wants_ready : (o p : ℕ) (w : Work) → wants o p w ≡ 0 → Ready (line o p) w × (writable o p w ≡ w)
@@ -55,9 +55,9 @@ wants_ready o p w e = go (slot_at (line o p) w.ranges) refl (slot_bytes w.cells 
   where
     go : (s : Option Slot) → slot_at (line o p) w.ranges ≡ s → (x : Option (List ℕ)) → slot_bytes w.cells (slot_at (line o p) w.ranges) ≡ x → lacks (state_in w s x) ≡ 0
         → Ready (line o p) w × (privately o p w s x ≡ w)
-    go none h x k z = absurd (omega arith)
-    go (some s) h none k z = absurd (omega arith)
-    go (some s) h (some x) k z =
+    go None h x k z = absurd (omega arith)
+    go (Some s) h None k z = absurd (omega arith)
+    go (Some s) h (Some x) k z =
         by-test (is_shared s.inside w.ranges)
         (λ t. absurd (let u : ◌≡◌ {A = ℕ} 1 0 = rw t at z in omega arith))
         (λ t. let F : Found (line o p) w.ranges s = found (line o p) w.ranges s h in
@@ -77,16 +77,16 @@ module _ (o p : ℕ) (f : List ℕ → List ℕ) (w : Work) (W : Ordered w) (T :
   same_alone g A = go (slot_at (line o p) (writable o p w).ranges)
     where
       go : (t : Option Slot) → Alone g (edited t f (writable o p w))
-      go none = A
-      go (some s) = record { r = A.r; mem = A.mem; low = A.low; high = A.high; once = A.once }
+      go None = A
+      go (Some s) = record { r = A.r; mem = A.mem; low = A.low; high = A.high; once = A.once }
 
   same_spare : (write_page o p f w).spare ≡ (writable o p w).spare
   unfolding write_page
   same_spare = go (slot_at (line o p) (writable o p w).ranges)
     where
       go : (t : Option Slot) → (edited t f (writable o p w)).spare ≡ (writable o p w).spare
-      go none = refl
-      go (some s) = refl
+      go None = refl
+      go (Some s) = refl
 
   ready_stays : (g : ℕ) → (g ≡ line o p → ⊥) → Ready g w → Ready g (write_page o p f w)
   ready_stays g ne R = record {
@@ -120,13 +120,13 @@ module _ (o p : ℕ) (f : List ℕ → List ℕ) (w : Work) (W : Ordered w) (T :
   wanted_less (suc i) q h = omega (arith, wants_less q (λ e. omega arith), wanted_less i (suc q) (omega arith))
 
   -- and with those there the page is written
-  pub written : wants o p w ≤ length w.spare → page_of (line o p) (write_page o p f w) ≡ some (f (seen w.size (page_of (line o p) w)))
+  pub written : wants o p w ≤ length w.spare → page_of (line o p) (write_page o p f w) ≡ Some (f (seen w.size (page_of (line o p) w)))
   unfolding write_page
   written h =
       by-eq (wants o p w) 0
       (λ e. let r = wants_ready o p w e in
       edited_here o p f (writable o p w) (way_private o p _ w _ (writable_way o p w W hp))
-      ∙ ap (λ v. map f (page_of (line o p) v)) r.1
+      ∙ ap (λ v. option_map f (page_of (line o p) v)) r.1
       ∙ rw r.0.has)
       (λ e. write_here o p f w W T hp (spare_room w W (omega arith)))
 
@@ -147,7 +147,7 @@ place_zero (suc j) = refl
 
 -- THE WRITE, page by page, with the frames counted at its entry: every touched page reads as it did with its piece of the data over it
 pub write_pages : (size i o p k : ℕ) (d : List ℕ) (w : Work) → Ordered w → Tight w → p + i ≤ 262144 → wanted i o p w ≤ length w.spare
-    → (j : ℕ) → j < i → page_of (line o (p + j)) (write_from size i o p k d w) ≡ some (over (place j k) (chunk size j k d) (seen w.size (page_of (line o (p + j)) w)))
+    → (j : ℕ) → j < i → page_of (line o (p + j)) (write_from size i o p k d w) ≡ Some (over (place j k) (chunk size j k d) (seen w.size (page_of (line o (p + j)) w)))
 unfolding write_from wanted chunk
 write_pages size zero o p k d w W T h n j l = absurd (not-suc-le-zero l)
 write_pages size (suc i) o p k d w W T h n zero l =
@@ -163,4 +163,4 @@ write_pages size (suc i) o p k d w W T h n (suc j) l =
     let ih = write_pages size i o (suc p) 0 (drop (size - k) d) (write_page o p f w) G.0 G.1 (omega arith)
     (omega (arith, wanted_less o p f w W T (omega arith) i (suc p) (omega arith), spare_left o p f w W T (omega arith))) j (omega arith) in
     let same : page_of (line o (suc p + j)) (write_page o p f w) ≡ page_of (line o (suc p + j)) w = write_elsewhere o p f w W T (omega arith) (line o (suc p + j)) (λ z. omega arith) in
-    rw e (ih ∙ ap (λ x. some (over (place j 0) (chunk size j 0 (drop (size - k) d)) (seen (write_page o p f w).size x))) same ∙ ap (λ z. some (over (place j 0) (chunk size j 0 (drop (size - k) d)) (seen z (page_of (line o (suc p + j)) w)))) (write_page_size o p f w W (omega arith)) ∙ ap (λ m. some (over m (chunk size j 0 (drop (size - k) d)) (seen w.size (page_of (line o (suc p + j)) w)))) (place_zero j))
+    rw e (ih ∙ ap (λ x. Some (over (place j 0) (chunk size j 0 (drop (size - k) d)) (seen (write_page o p f w).size x))) same ∙ ap (λ z. Some (over (place j 0) (chunk size j 0 (drop (size - k) d)) (seen z (page_of (line o (suc p + j)) w)))) (write_page_size o p f w W (omega arith)) ∙ ap (λ m. Some (over m (chunk size j 0 (drop (size - k) d)) (seen w.size (page_of (line o (suc p + j)) w)))) (place_zero j))

@@ -1,9 +1,8 @@
 -- THE FILE LAW: every call that is not refused makes of the files what File.antt says, and no other byte of any object changes.
-use Rattle.std.specs.Prelude.{◌≡◌, true, false, ◌⊎◌, List, [], get_or}
+use Rattle.std.specs.Prelude.{◌≡◌, true, false, ◌⊎◌, List, [], get_or, Option, Some, None}
 use Rattle.std.proofs.Math.Path.{refl, ap}
 use Rattle.std.proofs.Common.{sym, ◌∙◌, arith, eqb-true, mod-lt, zero-mul}
 use Rattle.std.proofs.lemmas.Bool.{false≢true}
-use Rattle.std.proofs.Math.Option.{Option, none, some}
 use Prim.Native.Nat.{ℕ, suc, ◌+◌, ◌-◌, ◌*◌, ◌/◌, ◌%◌, ◌≤◌, ◌<◌, zero-le}
 use Rattle.std.proofs.Math.ListN.{length}
 use Rattle.std.proofs.lemmas.List.{get_or-replicate}
@@ -77,12 +76,12 @@ module _ (b : Book) (S : Sound b) where
   hs = large b S
 
   -- an object that is not live has no ranges
-  pub bare : (o p : ℕ) → get_or b.live o false ≡ false → p < 262144 → slot_at (line o p) b.ranges ≡ none
+  pub bare : (o p : ℕ) → get_or b.live o false ≡ false → p < 262144 → slot_at (line o p) b.ranges ≡ None
   bare o p e h = go (slot_at (line o p) b.ranges) refl
     where
-      go : (t : Option Slot) → slot_at (line o p) b.ranges ≡ t → t ≡ none
-      go none k = refl
-      go (some s) k =
+      go : (t : Option Slot) → slot_at (line o p) b.ranges ≡ t → t ≡ None
+      go None k = refl
+      go (Some s) k =
           let F : Found (line o p) b.ranges s = found (line o p) b.ranges s k in
           let l : F.r.start + F.r.len ≤ 262144 = omega (arith, S.ends F.r F.mem, pages_few b S) in
           let z : F.r.object ≡ o = omega (arith, F.low, F.high) in

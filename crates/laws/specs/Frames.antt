@@ -1,8 +1,7 @@
 -- FRAMES THAT STAY: a page step, and an edit of a page's bytes, leave every other page in the frame that it has, with its bytes.
-use Rattle.std.specs.Prelude.{◌≡◌, true, List, ℕ, ◌<◌, get_or}
+use Rattle.std.specs.Prelude.{◌≡◌, true, List, ℕ, ◌<◌, get_or, Option, Some, None}
 use Rattle.std.proofs.Math.Path.{ap}
 use Rattle.std.proofs.Common.{sym, ◌∙◌, inl, inr, arith, get_or-set_other}
-use Rattle.std.proofs.Math.Option.{Option, none, some}
 use Rattle.std.proofs.Math.ListN.{get_or-map}
 use Rattle.lists.specs.Test.{by-lt}
 use Rattle.ranges.specs.Range.{Range, Slot, line, from, upto, slot_in, slot_at, put}
@@ -18,7 +17,6 @@ use Rattle.laws.specs.PageLaw.{way_private, private_differ}
 use Rattle.laws.specs.Numbers.{way_others}
 
 -- ---- one cell, of a frame that holds index i of backing b with the bytes x
-
 module _ (cs : List Cell) (f b i : ℕ) (x : List ℕ) (e : get_or cs f free ≡ holds b i x) where
   -- trimming keeps it where a range names it
   trim_frame : (rs : List Range) → named b i rs ≡ true → get_or (trim rs cs) f free ≡ holds b i x
@@ -38,7 +36,7 @@ module _ (cs : List Cell) (f b i : ℕ) (x : List ℕ) (e : get_or cs f free ≡
 -- ---- a page step
 
 -- another page is not at the slot where the page is settled
-settles_differ : (o p : ℕ) (w : Work) (n : Range) → Settles o p w n → (g : ℕ) → (g ≡ line o p → ⊥) → (s : Slot) → slot_at g w.ranges ≡ some s
+settles_differ : (o p : ℕ) (w : Work) (n : Range) → Settles o p w n → (g : ℕ) → (g ≡ line o p → ⊥) → (s : Slot) → slot_at g w.ranges ≡ Some s
     → Differ s (target n (slot_in (line o p) n).index)
 settles_differ o p w n S g ne s h b i =
     by-lt g (from n)
@@ -48,7 +46,7 @@ settles_differ o p w n S g ne s h b i =
     (λ u. S.others g s (inr u) h b))
 
 -- every other page is in the frame that it was in, with its bytes
-pub way_frame : (o p : ℕ) (x : List ℕ) (w v : Work) → Way o p w x v → Ordered w → (g : ℕ) → (g ≡ line o p → ⊥) → (s : Slot) → slot_at g w.ranges ≡ some s
+pub way_frame : (o p : ℕ) (x : List ℕ) (w v : Work) → Way o p w x v → Ordered w → (g : ℕ) → (g ≡ line o p → ⊥) → (s : Slot) → slot_at g w.ranges ≡ Some s
     → (f : ℕ) (z : List ℕ) → get_or w.cells f free ≡ holds s.inside s.index z → get_or v.cells f free ≡ holds s.inside s.index z
 unfolding settle
 way_frame o p x w v (as_is P e) W g ne s h f z c = c
@@ -63,22 +61,22 @@ way_frame o p x w v (settled n S) W g ne s h f z c =
 
 -- ---- a page written
 
-module _ (o p : ℕ) (f : List ℕ → List ℕ) (w : Work) (W : Ordered w) (hp : p < 262144) (g : ℕ) (ne : g ≡ line o p → ⊥) (s : Slot) (h : slot_at g w.ranges ≡ some s) where
+module _ (o p : ℕ) (f : List ℕ → List ℕ) (w : Work) (W : Ordered w) (hp : p < 262144) (g : ℕ) (ne : g ≡ line o p → ⊥) (s : Slot) (h : slot_at g w.ranges ≡ Some s) where
   -- the page is made writable first, and its bytes are changed then
   abbrev made : Work
   made = writable o p w
 
-  made_slot : slot_at g made.ranges ≡ some s
+  made_slot : slot_at g made.ranges ≡ Some s
   made_slot = way_others o p _ w made (writable_way o p w W hp) g ne s h
 
   -- every other page is at the slot that it was at
-  pub write_slot : slot_at g (write_page o p f w).ranges ≡ some s
+  pub write_slot : slot_at g (write_page o p f w).ranges ≡ Some s
   unfolding write_page
   write_slot = go (slot_at (line o p) made.ranges)
     where
-      go : (t : Option Slot) → slot_at g (edited t f made).ranges ≡ some s
-      go none = made_slot
-      go (some t) = made_slot
+      go : (t : Option Slot) → slot_at g (edited t f made).ranges ≡ Some s
+      go None = made_slot
+      go (Some t) = made_slot
 
   -- and in the frame that it was in, with its bytes
   pub write_frame : (k : ℕ) (z : List ℕ) → get_or w.cells k free ≡ holds s.inside s.index z → get_or (write_page o p f w).cells k free ≡ holds s.inside s.index z

@@ -1,6 +1,5 @@
 -- Ranges keep to the pages of live objects and to the indexes that a backing has, through every part of a call.
-use Rattle.std.specs.Prelude.{◌≡◌, refl, take, drop}
-use Rattle.std.proofs.Math.Option.{Option, none, some}
+use Rattle.std.specs.Prelude.{◌≡◌, refl, take, drop, Option, Some, None}
 use Rattle.std.proofs.Math.Logic.{⊎_elim}
 use mathlib.Core.List.Memᴰ
 use mathlib.Core.List.{List, [], ◌∷◌, map, Memᴰ}
@@ -64,8 +63,8 @@ module _ (room : ℕ → ℕ) (small : (o : ℕ) → room o ≤ 262144) where
       go (slot_at (line o p) (writable o p u).ranges) (way_housed room o p _ u _ (writable_way o p u W (omega (arith, small o))) h H)
     where
       go : (t : Option Slot) → Housing room (writable o p u).ranges → Housing room (edited t f (writable o p u)).ranges
-      go none K r m = K r m
-      go (some s) K r m = K r m
+      go None K r m = K r m
+      go (Some s) K r m = K r m
 
   -- ---- bytes
 
@@ -141,8 +140,8 @@ module _ (room : ℕ → ℕ) (small : (o : ℕ) → room o ≤ 262144) where
         (λ e. rw (ne_eqb n 0 e) (go (first_in w.size x n pos (room o) (omega arith) h) (page_of (line o (x / u.size)) u)))
       where
         go : x / w.size < room o → (y : Option (List ℕ)) → Housing room (cleared o (x / u.size) (x % u.size) n u y).ranges
-        go hp none r m = H r m
-        go hp (some y) r m = page_housed o (x / u.size) _ u K.good.whole (rw K.size hp) H r m
+        go hp None r m = H r m
+        go hp (Some y) r m = page_housed o (x / u.size) _ u K.good.whole (rw K.size hp) H r m
 
     module _ (s x o y n : ℕ) (hy : y + n ≤ 1073741824) (h : y + n ≤ room o * w.size) (H : Housing room w.ranges) where
       equal_housed : x % w.size ≡ y % w.size → Housing room (copy_equal s x o y n w).ranges

@@ -1,8 +1,7 @@
 -- What every part of a call keeps: the state stays good, of the same page size and with as many frames.
-use Rattle.std.specs.Prelude.{◌≡◌, ℕ, zero, suc, ◌+◌, ◌-◌, ◌/◌, ◌%◌, ◌≤◌, ◌<◌, min, max, take, drop, replicate}
+use Rattle.std.specs.Prelude.{◌≡◌, ℕ, zero, suc, ◌+◌, ◌-◌, ◌/◌, ◌%◌, ◌≤◌, ◌<◌, min, max, take, drop, replicate, Option, Some, None}
 use Rattle.std.proofs.Math.Path.{refl}
 use Rattle.std.proofs.Common.{◌∙◌, arith, length-take, length-set, eq-eqb, ne_eqb, eqb-true}
-use Rattle.std.proofs.Math.Option.{Option, none, some}
 use mathlib.Core.List.{List, [], ◌∷◌, map, Memᴰ}
 use Rattle.std.proofs.Math.Nat.{mod-lt}
 use Rattle.std.proofs.Math.ListN.{length, length-replicate, length-map}
@@ -64,12 +63,12 @@ module _ (o p : ℕ) (w u : Work) (hp : p < 262144) (K : Kept w u) where
   }
     where
       same_size : (t : Option Slot) → (edited t f (writable o p u)).size ≡ (writable o p u).size
-      same_size none = refl
-      same_size (some s) = refl
+      same_size None = refl
+      same_size (Some s) = refl
 
       same_cells : (t : Option Slot) → length (edited t f (writable o p u)).cells ≡ length (writable o p u).cells
-      same_cells none = refl
-      same_cells (some s) = unfold edit in simp length-map
+      same_cells None = refl
+      same_cells (Some s) = unfold edit in simp length-map
 
 -- ---- bytes
 
@@ -170,8 +169,8 @@ module _ (w : Work) (G : Good w) (hs : 4096 ≤ w.size) where
       (λ e. rw (ne_eqb n 0 e) (go (page_in w.size x n hs (omega arith) h) (page_of (line o (x / u.size)) u)))
     where
       go : x / w.size < 262144 → (y : Option (List ℕ)) → Kept w (cleared o (x / u.size) (x % u.size) n u y)
-      go hp none = K
-      go hp (some y) =
+      go hp None = K
+      go hp (Some y) =
           let l : length (replicate {A = ℕ} n 0) ≡ n = length-replicate n 0 in
           page_kept o (x / u.size) w u (rw K.size hp) K (over (x % u.size) (replicate n 0))
           (rw K.size (over_keeps w.size (x % w.size) (replicate n 0) (omega arith)))

@@ -1,7 +1,6 @@
 -- LOOKUP: the state that it answers is the page's: absent, or present in a range whose backing has one holder, or more.
-use Rattle.std.specs.Prelude.{◌≡◌, refl, ℕ, ◌≤◌, ◌<◌}
+use Rattle.std.specs.Prelude.{◌≡◌, refl, ℕ, ◌≤◌, ◌<◌, Option, Some, None}
 use Rattle.std.proofs.Common.{ap, sym, ◌∙◌, arith, ltb-true, ltb-false}
-use Rattle.std.proofs.Math.Option.{Option, none, some}
 use mathlib.Core.List.{List, Memᴰ}
 use Rattle.lists.specs.Test.{by-test}
 use Rattle.ranges.specs.Range.{Range, Slot, line, from, upto, slot_in, slot_at}
@@ -16,10 +15,10 @@ use Rattle.laws.specs.Accepted.{Accepted, accepted_step}
 
 -- page p of object o is in this state: it has no bytes; or it has bytes and is in a range r of the table, and r's backing has exactly one holder, or more
 pub data Looked (b : Book) (o p : ℕ) : State → Type 0 where
-  is_absent : page_of (line o p) (entry b) ≡ none → Looked b o p absent
-  is_private : (x : List ℕ) (r : Range) → page_of (line o p) (entry b) ≡ some x → Memᴰ r b.ranges → from r ≤ line o p → line o p < upto r
+  is_absent : page_of (line o p) (entry b) ≡ None → Looked b o p absent
+  is_private : (x : List ℕ) (r : Range) → page_of (line o p) (entry b) ≡ Some x → Memᴰ r b.ranges → from r ≤ line o p → line o p < upto r
       → holders r.backing b.ranges ≡ 1 → Looked b o p private
-  is_shared_lem : (x : List ℕ) (r : Range) → page_of (line o p) (entry b) ≡ some x → Memᴰ r b.ranges → from r ≤ line o p → line o p < upto r
+  is_shared_lem : (x : List ℕ) (r : Range) → page_of (line o p) (entry b) ≡ Some x → Memᴰ r b.ranges → from r ≤ line o p → line o p < upto r
       → 1 < holders r.backing b.ranges → Looked b o p shared
 
 -- an answer that is such a state
@@ -34,10 +33,10 @@ unfolding state_of page_of entry
 state_looked b o p = go (slot_at (line o p) (entry b).ranges) refl (page_of (line o p) (entry b)) refl
   where
     go : (s : Option Slot) → slot_at (line o p) (entry b).ranges ≡ s → (y : Option (List ℕ)) → page_of (line o p) (entry b) ≡ y → Looked b o p (state_in (entry b) s y)
-    go none e none f = is_absent f
-    go none e (some y) f = absurd (let a : none ≡ some y = rw e at f in let z : ◌≡◌ {A = ℕ} 0 1 = cc in omega arith)
-    go (some s) e none f = is_absent f
-    go (some s) e (some y) f =
+    go None e None f = is_absent f
+    go None e (Some y) f = absurd (let a : None ≡ Some y = rw e at f in let z : ◌≡◌ {A = ℕ} 0 1 = cc in omega arith)
+    go (Some s) e None f = is_absent f
+    go (Some s) e (Some y) f =
         let F : Found (line o p) b.ranges s = found (line o p) b.ranges s e in
         let k : s.inside ≡ F.r.backing = ap (λ t. t.inside) F.is in
         by-test (is_shared s.inside b.ranges)
@@ -58,10 +57,10 @@ module _ (b : Book) (S : Sound b) (o p : ℕ) where
       ap (λ c. holders c b.ranges) (one (slot_in (line o p) r) (slot_in (line o p) q)
       (sym (slot_mem 0 (line o p) r b.ranges S.order m l u) ∙ slot_mem 0 (line o p) q b.ranges S.order n k v))
     where
-      one : (s t : Slot) → some s ≡ some t → s.inside ≡ t.inside
+      one : (s t : Slot) → Some s ≡ Some t → s.inside ≡ t.inside
       one s t e = let z : s ≡ t = cc in ap (λ (y : Slot). y.inside) z
 
-  not_both : (x : List ℕ) → page_of (line o p) (entry b) ≡ none → page_of (line o p) (entry b) ≡ some x → ⊥
+  not_both : (x : List ℕ) → page_of (line o p) (entry b) ≡ None → page_of (line o p) (entry b) ≡ Some x → ⊥
   not_both x d e = let z : ◌≡◌ {A = ℕ} 0 1 = cc in omega arith
 
   pub look_once : (s t : State) → Looked b o p s → Looked b o p t → s ≡ t

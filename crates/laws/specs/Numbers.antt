@@ -1,9 +1,8 @@
 -- BACKING NUMBERS: "internal backing numbers are equal exactly where the backing is the same". Page steps, sharing and uncovering leave every other covered
 -- page at its slot, the backing's number and the index; a page that they work on is where 01 says; a number taken anew was held by no range.
-use Rattle.std.specs.Prelude.{◌≡◌, ◌⊎◌, List, ℕ, ◌+◌, ◌≤◌, ◌<◌, length}
+use Rattle.std.specs.Prelude.{◌≡◌, ◌⊎◌, List, ℕ, ◌+◌, ◌≤◌, ◌<◌, length, Some, None}
 use Rattle.std.proofs.Math.Path.{ap}
 use Rattle.std.proofs.Common.{sym, ◌∙◌, ⊎_elim, eq-eqb, ne_eqb}
-use Rattle.std.proofs.Math.Option.{none, some}
 use Rattle.std.proofs.Math.Logic.{inl, inr}
 use native.Mathlib.Omega.{arith}
 use Rattle.lists.specs.Test.{by-lt, by-eq}
@@ -29,19 +28,19 @@ use Rattle.laws.specs.PageLaw.{way_private}
 -- ---- one page step
 
 -- every other page that was covered is at the slot that it was at
-pub way_others : (o p : ℕ) (x : List ℕ) (w v : Work) → Way o p w x v → (g : ℕ) → (g ≡ line o p → ⊥) → (s : Slot) → slot_at g w.ranges ≡ some s → slot_at g v.ranges ≡ some s
+pub way_others : (o p : ℕ) (x : List ℕ) (w v : Work) → Way o p w x v → (g : ℕ) → (g ≡ line o p → ⊥) → (s : Slot) → slot_at g w.ranges ≡ Some s → slot_at g v.ranges ≡ Some s
 unfolding settle
 way_others o p x w v (as_is P e) g ne s h = h
 way_others o p x w v (settled n S) g ne s h =
     by-lt g (from n)
     (λ l. put_other n g w.ranges (inl l) ∙ h)
     (λ l. by-lt g (upto n)
-    (λ u. put_hit n g w.ranges l u ∙ ap some (sym (S.kept g s l u ne h)))
+    (λ u. put_hit n g w.ranges l u ∙ ap Some (sym (S.kept g s l u ne h)))
     (λ u. put_other n g w.ranges (inr u) ∙ h))
 
 -- every page that is covered afterwards is at the slot that it was at, or in the range before it that was made longer over it, or in a backing that no
 -- range held before
-pub way_origin : (o p : ℕ) (x : List ℕ) (w v : Work) → Way o p w x v → (g : ℕ) (s : Slot) → slot_at g v.ranges ≡ some s → Origin g w.ranges s
+pub way_origin : (o p : ℕ) (x : List ℕ) (w v : Work) → Way o p w x v → (g : ℕ) (s : Slot) → slot_at g v.ranges ≡ Some s → Origin g w.ranges s
 unfolding settle
 way_origin o p x w v (as_is P e) g s h = stayed h
 way_origin o p x w v (settled n S) g s h =
@@ -51,13 +50,13 @@ way_origin o p x w v (settled n S) g s h =
     (λ u. let z : slot_in g n ≡ s = same (slot_in g n) s (sym (put_hit n g w.ranges l u) ∙ h) in rw (← z) (S.origin g l u))
     (λ u. stayed (sym (put_other n g w.ranges (inr u)) ∙ h)))
   where
-    same : (a b : Slot) → some a ≡ some b → a ≡ b
+    same : (a b : Slot) → Some a ≡ Some b → a ≡ b
     same a b e = cc
 
 -- where page p of object o is afterwards
 pub record Numbered (o p : ℕ) (w v : Work) : Type 0 where
   pub slot : Slot
-  pub is : slot_at (line o p) v.ranges ≡ some slot
+  pub is : slot_at (line o p) v.ranges ≡ Some slot
   pub origin : Origin (line o p) w.ranges slot
 
 pub way_number : (o p : ℕ) (x : List ℕ) (w v : Work) → Way o p w x v → Numbered o p w v
@@ -102,7 +101,7 @@ module _ (s p o q n : ℕ) (w : Work) where
 
 -- pages left uncovered are nowhere, every other page is where it was
 module _ (o p n : ℕ) (w : Work) where
-  pub uncover_slot : (g : ℕ) → line o p ≤ g → g < line o p + n → slot_at g (uncover o p n w).ranges ≡ none
+  pub uncover_slot : (g : ℕ) → line o p ≤ g → g < line o p + n → slot_at g (uncover o p n w).ranges ≡ None
   unfolding uncover
   uncover_slot g l u = rw (ne_eqb n 0 (λ e. omega arith)) (carve_inside (line o p) (line o p + n) g w.ranges l u)
 

@@ -1,9 +1,9 @@
 -- THE PAGE LAW: a page that is added or written reads as it should, every other page of every object reads as it did, and the state stays good.
 -- Each law goes by the two cases of `Way`.
-use Rattle.std.specs.Prelude.{◌≡◌, ◌⊎◌, ℕ, suc, ◌≤◌, ◌<◌, get_or}
+use Rattle.std.specs.Option.{option_map}
+use Rattle.std.specs.Prelude.{◌≡◌, ◌⊎◌, ℕ, suc, ◌≤◌, ◌<◌, get_or, Option, Some, None}
 use Rattle.std.proofs.Math.Path.{refl, ap}
 use Rattle.std.proofs.Common.{sym, ◌∙◌, inl, inr, zero-le, le_refl, arith}
-use Rattle.std.proofs.Math.Option.{Option, none, some, map}
 use Rattle.std.proofs.Math.Logic.{⊎_elim}
 use mathlib.Core.List.{List, [], ◌∷◌, Memᴰ, tail}
 use Rattle.std.proofs.Math.ListN.{length, length-map, get_or-map}
@@ -22,7 +22,6 @@ use Rattle.laws.specs.Settle.{settle_bytes, settle_here, settle_out, settle_tigh
 use Rattle.laws.specs.Way.{Private, Way, as_is, settled, writable_way}
 
 -- ---- a page made private
-
 pub way_private : (o p : ℕ) (x : List ℕ) (w v : Work) → Way o p w x v → Private o p v
 unfolding settle
 way_private o p x w v (as_is P e) = P
@@ -64,7 +63,7 @@ way_elsewhere o p x w v (settled n S) W T g ne =
     out c = settle_out n _ x w W g c (λ s e k _. S.others g s c e k)
 
 -- and the page itself has the bytes x, while there is a frame
-pub way_here : (o p : ℕ) (x : List ℕ) (w v : Work) → Way o p w x v → Ordered w → next w < length w.cells → page_of (line o p) v ≡ some x
+pub way_here : (o p : ℕ) (x : List ℕ) (w v : Work) → Way o p w x v → Ordered w → next w < length w.cells → page_of (line o p) v ≡ Some x
 way_here o p x w v (as_is P e) W h = e
 way_here o p x w v (settled n S) W h = settle_here n _ x w W (line o p) (put_hit n (line o p) w.ranges S.low S.high) h
 
@@ -130,8 +129,8 @@ edit_free s f cs k e = get_or-map (changed s f) cs k free ∙ rw e
 
 module _ (f : List ℕ → List ℕ) (v : Work) where
   pub edited_ordered : (t : Option Slot) → Ordered v → Ordered (edited t f v)
-  edited_ordered none A = A
-  edited_ordered (some s) A =
+  edited_ordered None A = A
+  edited_ordered (Some s) A =
       let l : length (edit s f v.cells) ≡ length v.cells = unfold edit in simp length-map in
       record {
         rising = A.rising;
@@ -141,21 +140,21 @@ module _ (f : List ℕ → List ℕ) (v : Work) where
 
   pub edited_tight : (t : Option Slot) → Tight v → Tight (edited t f v)
   unfolding Tight
-  edited_tight none T g b i y e = T g b i y e
-  edited_tight (some s) T g b i y e = let E : Edited f g b i y v.cells = edit_at s f v.cells g b i y e in T g b i E.old E.was
+  edited_tight None T g b i y e = T g b i y e
+  edited_tight (Some s) T g b i y e = let E : Edited f g b i y v.cells = edit_at s f v.cells g b i y e in T g b i E.old E.was
 
   edited_fits : (t : Option Slot) → Keeps v.size f → Fits v → Fits (edited t f v)
   unfolding Fits
-  edited_fits none h F g b i y e = F g b i y e
-  edited_fits (some s) h F g b i y e =
+  edited_fits None h F g b i y e = F g b i y e
+  edited_fits (Some s) h F g b i y e =
       let E : Edited f g b i y v.cells = edit_at s f v.cells g b i y e in
       let l : length E.old ≡ v.size = F g b i E.old E.was in
       ⊎_elim (λ (q : y ≡ E.old). ap length q ∙ l) (λ (q : y ≡ f E.old). ap length q ∙ h E.old l) E.new
 
   edited_apart : (t : Option Slot) → Apart v → Apart (edited t f v)
   unfolding Apart
-  edited_apart none A g h b i y z d e = A g h b i y z d e
-  edited_apart (some s) A g h b i y z d e =
+  edited_apart None A g h b i y z d e = A g h b i y z d e
+  edited_apart (Some s) A g h b i y z d e =
       let D : Edited f g b i y v.cells = edit_at s f v.cells g b i y d in
       let E : Edited f h b i z v.cells = edit_at s f v.cells h b i z e in
       A g h b i D.old E.old D.was E.was
@@ -165,7 +164,7 @@ module _ (f : List ℕ → List ℕ) (v : Work) where
       { whole = edited_ordered t G.whole; tight = edited_tight t G.tight; fits = edited_fits t h G.fits; apart = edited_apart t G.apart }
 
 -- the pages of the one holder of a backing, and no other, are in that backing
-pub only : (w : Work) (r : Range) (g : ℕ) (s : Slot) → Memᴰ r w.ranges → holders r.backing w.ranges ≡ 1 → slot_at g w.ranges ≡ some s → s.inside ≡ r.backing
+pub only : (w : Work) (r : Range) (g : ℕ) (s : Slot) → Memᴰ r w.ranges → holders r.backing w.ranges ≡ 1 → slot_at g w.ranges ≡ Some s → s.inside ≡ r.backing
     → (from r ≤ g) × (g < upto r) × (s ≡ slot_in g r)
 only w r g s m h e b =
     let F : Found g w.ranges s = found g w.ranges s e in
@@ -173,7 +172,7 @@ only w r g s m h e b =
     (rw z F.low, rw z F.high, rw z F.is)
 
 -- no other page is at the slot of a page that is private
-pub private_differ : (o p : ℕ) (v : Work) (P : Private o p v) (g : ℕ) → (g ≡ line o p → ⊥) → (s : Slot) → slot_at g v.ranges ≡ some s → Differ s (slot_in (line o p) P.r)
+pub private_differ : (o p : ℕ) (v : Work) (P : Private o p v) (g : ℕ) → (g ≡ line o p → ⊥) → (s : Slot) → slot_at g v.ranges ≡ Some s → Differ s (slot_in (line o p) P.r)
 private_differ o p v P g ne s e b j =
     let q = only v P.r g s P.mem P.once e b in
     let L = only v P.r (line o p) (slot_in (line o p) P.r) P.mem P.once P.slot refl in
@@ -189,10 +188,10 @@ module _ (o p : ℕ) (f : List ℕ → List ℕ) (v : Work) (P : Private o p v) 
   edited_elsewhere g ne = rw P.slot (go (slot_at g v.ranges) refl)
     where
       go : (t : Option Slot) → slot_at g v.ranges ≡ t → slot_bytes (edit sl f v.cells) t ≡ slot_bytes v.cells t
-      go none e = refl
-      go (some s) e = edit_other sl s f v.cells (private_differ o p v P g ne s e)
+      go None e = refl
+      go (Some s) e = edit_other sl s f v.cells (private_differ o p v P g ne s e)
 
-  pub edited_here : page_of (line o p) (edited (slot_at (line o p) v.ranges) f v) ≡ map f (page_of (line o p) v)
+  pub edited_here : page_of (line o p) (edited (slot_at (line o p) v.ranges) f v) ≡ option_map f (page_of (line o p) v)
   unfolding page_of
   edited_here = rw P.slot (rw P.slot (edit_here sl f v.cells))
 
@@ -203,8 +202,8 @@ unfolding write_page
 write_page_size o p f w W hp = go (slot_at (line o p) (writable o p w).ranges) ∙ way_size o p _ w _ (writable_way o p w W hp)
   where
     go : (t : Option Slot) → (edited t f (writable o p w)).size ≡ (writable o p w).size
-    go none = refl
-    go (some s) = refl
+    go None = refl
+    go (Some s) = refl
 
 module _ (o p : ℕ) (f : List ℕ → List ℕ) (w : Work) (W : Ordered w) (T : Tight w) (hp : p < 262144) where
   -- the page is made private first
@@ -215,9 +214,9 @@ module _ (o p : ℕ) (f : List ℕ → List ℕ) (w : Work) (W : Ordered w) (T :
   unfolding write_page
   write_elsewhere g ne = edited_elsewhere o p f (writable o p w) (way_private o p _ w _ made) g ne ∙ way_elsewhere o p _ w _ made W T g ne
 
-  pub write_here : next w < length w.cells → page_of (line o p) (write_page o p f w) ≡ some (f (seen w.size (page_of (line o p) w)))
+  pub write_here : next w < length w.cells → page_of (line o p) (write_page o p f w) ≡ Some (f (seen w.size (page_of (line o p) w)))
   unfolding write_page
-  write_here h = edited_here o p f (writable o p w) (way_private o p _ w _ made) ∙ ap (λ x. map f x) (way_here o p _ w _ made W h)
+  write_here h = edited_here o p f (writable o p w) (way_private o p _ w _ made) ∙ ap (λ x. option_map f x) (way_here o p _ w _ made W h)
 
   pub write_good : Ordered (write_page o p f w) × Tight (write_page o p f w)
   unfolding write_page

@@ -1,8 +1,7 @@
 -- THE LAW OF PRESENCE: after every call that is not refused the pages that Presence.antt says are present, and no others.
-use Rattle.std.specs.Prelude.{◌≡◌, Bool, true, false, List, [], ◌∷◌}
+use Rattle.std.specs.Prelude.{◌≡◌, Bool, true, false, List, [], ◌∷◌, Option, Some, None}
 use Rattle.std.proofs.Math.Path.{refl, sym}
 use Rattle.std.proofs.Common.{ap, ◌∙◌, arith, eqb-true}
-use Rattle.std.proofs.Math.Option.{Option, none, some}
 use Prim.Native.Nat.{ℕ, suc, ◌+◌, ◌-◌, ◌/◌, ◌%◌, ◌≤◌, ◌<◌, zero-le, ◌*◌}
 use Rattle.std.proofs.Math.ListN.{length}
 use Rattle.lists.specs.Test.{pick, by-test}
@@ -32,7 +31,6 @@ use Rattle.laws.specs.Presents.{has, shared_has, Presents, Same, presents_amid, 
 use Rattle.laws.specs.Zeroing.{sum, KV, head_counts, split, tail_room}
 
 -- ---- zeroing: its whole pages are left uncovered between the clearing of its head and of its tail
-
 module _ (o x n : ℕ) (w : Work) (G : Good w) (hs : 4096 ≤ w.size) (h : x + n ≤ 1073741824)
     (enough : counted_parts (λ q. common (state_of o q w)) w.size x n ≤ length w.spare) where
   abbrev P : Span
@@ -94,16 +92,16 @@ module _ (b : Book) (S : Sound b) where
   hs = large b S
 
   -- no range reaches past the object's last page
-  past_end : (o p : ℕ) → object_bytes / b.size ≤ p → p < 262144 → slot_at (line o p) b.ranges ≡ none
+  past_end : (o p : ℕ) → object_bytes / b.size ≤ p → p < 262144 → slot_at (line o p) b.ranges ≡ None
   past_end o p l h = go (slot_at (line o p) b.ranges) refl
     where
-      go : (t : Option Slot) → slot_at (line o p) b.ranges ≡ t → t ≡ none
-      go none k = refl
-      go (some s) k =
+      go : (t : Option Slot) → slot_at (line o p) b.ranges ≡ t → t ≡ None
+      go None k = refl
+      go (Some s) k =
           let F : Found (line o p) b.ranges s = found (line o p) b.ranges s k in
           absurd (omega (arith, F.low, F.high, S.ends F.r F.mem, pages_few b S))
 
-  absent : (o p : ℕ) → slot_at (line o p) b.ranges ≡ none → has (line o p) w ≡ false
+  absent : (o p : ℕ) → slot_at (line o p) b.ranges ≡ None → has (line o p) w ≡ false
   absent o p e = ap (λ t. is_some t) (page_none (line o p) w (unfold entry in e))
 
   new_shows : (o : ℕ) → Accepted b (new_object o) → Shows b (new_object o) (entry (set_live o true b))
@@ -211,5 +209,5 @@ unfolding entry page_of frame_of
 present_frame b o p = go (slot_at (line o p) b.ranges)
   where
     go : (t : Option Slot) → is_some (slot_bytes b.cells t) ≡ is_some (frame_in b.cells t)
-    go none = refl
-    go (some s) = frame_bytes s 0 b.cells
+    go None = refl
+    go (Some s) = frame_bytes s 0 b.cells

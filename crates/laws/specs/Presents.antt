@@ -1,7 +1,6 @@
 -- A STEP AS A CHANGE OF PRESENCE: the pages from p up to q of object o become present as f says, and every other page of every object stays so or not.
-use Rattle.std.specs.Prelude.{◌≡◌, refl, Bool, true, false, ◌&&◌, ◌⊎◌, List, ℕ, ◌+◌, ◌-◌, ◌/◌, ◌%◌, ◌≤◌, ◌<◌, ltb, leb, eqb, length, replicate}
+use Rattle.std.specs.Prelude.{◌≡◌, refl, Bool, true, false, ◌&&◌, ◌⊎◌, List, ℕ, ◌+◌, ◌-◌, ◌/◌, ◌%◌, ◌≤◌, ◌<◌, ltb, leb, eqb, length, replicate, Option, Some, None}
 use Rattle.std.proofs.Common.{ap, sym, ◌∙◌, inl, inr, ⊎_elim, arith, eq-eqb, ne_eqb, lt-ltb, le-ltb, le-leb}
-use Rattle.std.proofs.Math.Option.{Option, none, some}
 use Rattle.std.proofs.lemmas.Bool.{lt-leb}
 use Rattle.lists.specs.Test.{pick, by-lt, by-eq}
 use Rattle.ranges.specs.Range.{Slot, line, slot_at}
@@ -151,8 +150,8 @@ sharing_present s p o q n w G other ps qs =
     (sharing_out s p o q n w G.whole other ps qs)
   where
     go : (t : Option Slot) (y z : Option (List ℕ)) → is_some (from_source t y z) ≡ pick (is_some t) (is_some y) (is_some z)
-    go none y z = refl
-    go (some s) y z = refl
+    go None y z = refl
+    go (Some s) y z = refl
 
 -- whole pages left uncovered are absent
 pub uncover_present : (o p n : ℕ) (w : Work) → p + n ≤ 262144 → Presents o p (p + n) (λ _. false) w (uncover o p n w)
@@ -169,7 +168,7 @@ add_present o p w G hp h =
 
 -- bytes cleared in a part of a page, with a frame if the page is present and wants one: a present page stays present, an absent one absent
 pub clear_same : (o x n : ℕ) (w : Work) → Good w → 4096 ≤ w.size → x + n ≤ 1073741824
-    → ((y : List ℕ) → page_of (line o (x / w.size)) w ≡ some y → pick (eqb n 0) 0 (wants o (x / w.size) w) ≤ length w.spare) → Same w (clear o x n w)
+    → ((y : List ℕ) → page_of (line o (x / w.size)) w ≡ Some y → pick (eqb n 0) 0 (wants o (x / w.size) w) ≤ length w.spare) → Same w (clear o x n w)
 unfolding clear
 clear_same o x n w G hs h ok o' k b =
     by-eq n 0
@@ -183,8 +182,8 @@ clear_same o x n w G hs h ok o' k b =
     f = over (x % w.size) (replicate n 0)
 
     go : (n ≡ 0 → ⊥) → (t : Option (List ℕ)) → page_of (line o (x / w.size)) w ≡ t → has (line o' k) (cleared o (x / w.size) (x % w.size) n w t) ≡ has (line o' k) w
-    go ne none d = refl
-    go ne (some y) d =
+    go ne None d = refl
+    go ne (Some y) d =
         let hp : x / w.size < 262144 = page_in w.size x n hs (omega arith) h in
         by-eq (line o' k) (line o p)
         (λ z. rw z (ap is_some (written o p f w G.whole G.tight hp (rw (ne_eqb n 0 ne) at (ok y d))) ∙ sym (ap is_some d)))

@@ -1,8 +1,7 @@
 -- READING: a read gives the bytes of the object's file, for any page size.
-use Rattle.std.specs.Prelude.{◌≡◌, refl, drop}
+use Rattle.std.specs.Prelude.{◌≡◌, refl, drop, Option, Some, None}
 use Rattle.std.proofs.Math.Path.{ap, sym}
 use Rattle.std.proofs.Common.{◌∙◌, mod-eq_of_lt, length-take, length-drop, ne_eqb, eq-eqb}
-use Rattle.std.proofs.Math.Option.{Option, none, some}
 use mathlib.Core.List.{List, ◌++◌}
 use Prim.Native.Nat.{ℕ, zero, suc, ◌+◌, ◌-◌, ◌*◌, ◌/◌, ◌%◌, ◌≤◌, ◌<◌, min, zero-le}
 use Rattle.std.proofs.Math.Nat.{zero-mul, suc-mul, mod-lt, div-eq_of_lt, add-mul-div_right, add-mul-mod_self_right, div-add-mod'}
@@ -23,12 +22,12 @@ unfolding page_of
 seen_length g w Z = go (slot_at g w.ranges)
   where
     inner : (s : Slot) (y : Option (List ℕ)) → bytes_at s w.cells ≡ y → length (seen w.size y) ≡ w.size
-    inner s none e = length-replicate w.size 0
-    inner s (some x) e = fits_slot w Z s x e
+    inner s None e = length-replicate w.size 0
+    inner s (Some x) e = fits_slot w Z s x e
 
     go : (t : Option Slot) → length (seen w.size (slot_bytes w.cells t)) ≡ w.size
-    go none = length-replicate w.size 0
-    go (some s) = inner s (bytes_at s w.cells) refl
+    go None = length-replicate w.size 0
+    go (Some s) = inner s (bytes_at s w.cells) refl
 
 -- place r of page p
 module _ (size p r : ℕ) (small : r < size) where

@@ -1,8 +1,7 @@
 -- THE PAGE STEP `settle`: what it leaves at every page, and that it keeps the state good.
-use Rattle.std.specs.Prelude.{◌≡◌, ◌⊎◌, ℕ, ◌+◌, ◌≤◌, ◌<◌, get_or, true}
+use Rattle.std.specs.Prelude.{◌≡◌, ◌⊎◌, ℕ, ◌+◌, ◌≤◌, ◌<◌, get_or, true, Option, Some, None}
 use Rattle.std.proofs.Math.Path.{refl, sym}
 use Rattle.std.proofs.Common.{◌∙◌, arith}
-use Rattle.std.proofs.Math.Option.{Option, none, some}
 use Rattle.std.proofs.Math.Logic.{inl, inr, ⊎_elim}
 use mathlib.Core.List.{List, [], ◌∷◌, head_d, tail}
 use Rattle.std.proofs.Math.ListN.{length, set, length-map, length-set}
@@ -20,11 +19,11 @@ use Rattle.laws.specs.State.{Spare, Ordered, Tight, Fits, Apart, spare_keep, spa
 abbrev pub target : Range → ℕ → Slot
 target n i = record { inside = n.backing; index = i }
 
-pub page_none : (g : ℕ) (w : Work) → slot_at g w.ranges ≡ none → page_of g w ≡ none
+pub page_none : (g : ℕ) (w : Work) → slot_at g w.ranges ≡ None → page_of g w ≡ None
 unfolding page_of
 page_none g w e = rw e
 
-pub page_some : (g : ℕ) (w : Work) (s : Slot) → slot_at g w.ranges ≡ some s → page_of g w ≡ bytes_at s w.cells
+pub page_some : (g : ℕ) (w : Work) (s : Slot) → slot_at g w.ranges ≡ Some s → page_of g w ≡ bytes_at s w.cells
 unfolding page_of
 page_some g w s e = rw e
 
@@ -43,23 +42,23 @@ module _ (n : Range) (i : ℕ) (x : List ℕ) (w : Work) (W : Ordered w) where
   same_length = unfold vacate trim in simp length-map
 
   -- a slot that a page of the new table names, and that is not the page's: its bytes are what they were
-  pub settle_bytes : (g : ℕ) (s : Slot) → slot_at g rs ≡ some s → Differ s (target n i) → page_of g (settle n i x w) ≡ bytes_at s w.cells
+  pub settle_bytes : (g : ℕ) (s : Slot) → slot_at g rs ≡ Some s → Differ s (target n i) → page_of g (settle n i x w) ≡ bytes_at s w.cells
   unfolding page_of settle
   settle_bytes g s e d =
       rw e (set_other s n.backing i x ds (next w) free_next d ∙ vacate_other (target n i) s (trim rs w.cells) d ∙ trim_named s rs w.cells (slot_named g rs s e))
 
   -- the page itself, while there is a frame
-  pub settle_here : (g : ℕ) → slot_at g rs ≡ some (target n i) → next w < length w.cells → page_of g (settle n i x w) ≡ some x
+  pub settle_here : (g : ℕ) → slot_at g rs ≡ Some (target n i) → next w < length w.cells → page_of g (settle n i x w) ≡ Some x
   unfolding page_of settle
   settle_here g e h = rw e (set_here (target n i) x ds (next w) (rw same_length h) (vacate_here (target n i) (trim rs w.cells)))
 
   -- a page outside the range put in, if its slot is not the page's
-  pub settle_out : (g : ℕ) → (g < from n) ⊎ (upto n ≤ g) → ((s : Slot) → slot_at g w.ranges ≡ some s → Differ s (target n i)) → page_of g (settle n i x w) ≡ page_of g w
+  pub settle_out : (g : ℕ) → (g < from n) ⊎ (upto n ≤ g) → ((s : Slot) → slot_at g w.ranges ≡ Some s → Differ s (target n i)) → page_of g (settle n i x w) ≡ page_of g w
   settle_out g o d = go (slot_at g w.ranges) refl
     where
       go : (t : Option Slot) → slot_at g w.ranges ≡ t → page_of g (settle n i x w) ≡ page_of g w
-      go none e = page_none g (settle n i x w) (unfold settle in put_other n g w.ranges o ∙ e) ∙ sym (page_none g w e)
-      go (some s) e = settle_bytes g s (put_other n g w.ranges o ∙ e) (d s e) ∙ sym (page_some g w s e)
+      go None e = page_none g (settle n i x w) (unfold settle in put_other n g w.ranges o ∙ e) ∙ sym (page_none g w e)
+      go (Some s) e = settle_bytes g s (put_other n g w.ranges o ∙ e) (d s e) ∙ sym (page_some g w s e)
 
   -- a frame in use afterwards: the one taken, or one that was in use, is in a window and at another slot
   pub settle_at : (f b j : ℕ) (y : List ℕ) → get_or (settle n i x w).cells f free ≡ holds b j y

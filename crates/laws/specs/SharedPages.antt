@@ -2,8 +2,7 @@
 -- else as it did; every other page reads as it did. Pages left uncovered are absent; every other page reads as it did.
 use Rattle.std.proofs.Math.Path.{◌≡◌, refl, sym}
 use Rattle.std.proofs.Common.{ap, ◌∙◌, arith, ne_eqb, eq-eqb}
-use Rattle.std.proofs.Math.Option.{Option, none, some}
-use Rattle.std.specs.Prelude.{◌⊎◌}
+use Rattle.std.specs.Prelude.{◌⊎◌, Option, Some, None}
 use Rattle.std.proofs.Math.Logic.{inl, inr, ⊎_elim}
 use mathlib.Core.List.{List, [], ◌∷◌, ◌++◌, map}
 use Prim.Native.Nat.{ℕ, ◌+◌, ◌-◌, ◌≤◌, ◌<◌, min, max}
@@ -24,14 +23,13 @@ use Rattle.laws.specs.State.{Ordered}
 use Rattle.laws.specs.Settle.{page_some}
 
 -- ---- a new table, and the cells trimmed by it
-
 with_ranges_page : (rs : List Range) (w : Work) (g : ℕ) → slot_at g rs ≡ slot_at g w.ranges → page_of g (with_ranges rs w) ≡ page_of g w
 unfolding page_of
 with_ranges_page rs w g e = go (slot_at g w.ranges) refl
   where
     go : (t : Option Slot) → slot_at g w.ranges ≡ t → slot_bytes (trim rs w.cells) (slot_at g rs) ≡ slot_bytes w.cells (slot_at g w.ranges)
-    go none f = rw (e, f)
-    go (some s) f = rw (e, f) (trim_named s rs w.cells (slot_named g rs s (e ∙ f)))
+    go None f = rw (e, f)
+    go (Some s) f = rw (e, f) (trim_named s rs w.cells (slot_named g rs s (e ∙ f)))
 
 -- ---- uncovered pages
 
@@ -46,7 +44,7 @@ module _ (o p n : ℕ) (w : Work) where
       (⊎_elim (λ (l : g < line o p). carve_below (line o p) (line o p + n) g w.ranges (omega arith) l)
       (λ (l : line o p + n ≤ g). carve_above (line o p) (line o p + n) g w.ranges (omega arith) l) x)))
 
-  pub uncover_in : (g : ℕ) → line o p ≤ g → g < line o p + n → page_of g (uncover o p n w) ≡ none
+  pub uncover_in : (g : ℕ) → line o p ≤ g → g < line o p + n → page_of g (uncover o p n w) ≡ None
   unfolding uncover page_of
   uncover_in g l u = rw (ne_eqb n 0 (λ e. omega arith), carve_inside (line o p) (line o p + n) g w.ranges l u)
 
@@ -94,20 +92,20 @@ module _ (a o q e : ℕ) where
       (λ h. ⊎_elim (λ (l : g < line o q). inl (omega arith)) (λ (l : line o q + (e - a) ≤ g). inr (omega arith)) x)
       (missed_out g src x)
 
-  missed_hole : (g : ℕ) (src : List Range) → line o q ≤ g → slot_at (source a o q g) src ≡ none → Missed g (map (moved a o q) (parts a e src))
+  missed_hole : (g : ℕ) (src : List Range) → line o q ≤ g → slot_at (source a o q g) src ≡ None → Missed g (map (moved a o q) (parts a e src))
   unfolding parts Missed
   missed_hole g [] l z = tt
   missed_hole g (r ∷ src) l z =
       by-lt (source a o q g) (from r)
       (λ u. one_missed g r (parts a e src) (λ h. inl (omega arith)) (missed_hole g src l (sym (slot_low (source a o q g) r src u) ∙ z)))
       (λ u. by-lt (source a o q g) (upto r)
-      (λ v. absurd (let c : some (slot_in (source a o q g) r) ≡ none = sym (slot_hit (source a o q g) r src u v) ∙ z in let y : ◌≡◌ {A = ℕ} 0 1 = cc in omega arith))
+      (λ v. absurd (let c : Some (slot_in (source a o q g) r) ≡ None = sym (slot_hit (source a o q g) r src u v) ∙ z in let y : ◌≡◌ {A = ℕ} 0 1 = cc in omega arith))
       (λ v. one_missed g r (parts a e src) (λ h. inr (omega arith)) (missed_hole g src l (sym (slot_high (source a o q g) r src v) ∙ z))))
 
 -- what a page reads as after sharing: as its source page where that is covered, else as before
 abbrev pub from_source : Option Slot → Option (List ℕ) → Option (List ℕ) → Option (List ℕ)
-from_source none x y = y
-from_source (some s) x y = x
+from_source None x y = y
+from_source (Some s) x y = x
 
 module _ (s p o q n : ℕ) (w : Work) (W : Ordered w) (other : s ≡ o → ⊥) (ps : p + n ≤ 262144) (qs : q + n ≤ 262144) where
   pub sharing_out : (g : ℕ) → (g < line o q) ⊎ (line o q + n ≤ g) → page_of g (sharing s p o q n w) ≡ page_of g w
@@ -139,12 +137,12 @@ module _ (s p o q n : ℕ) (w : Work) (W : Ordered w) (other : s ≡ o → ⊥) 
 
       go : (t : Option Slot) → slot_at (line s (p + j)) w.ranges ≡ t
           → page_of (line o (q + j)) (share (map (moved (line s p) o q) (parts (line s p) (line s p + n) w.ranges)) w) ≡ from_source t (page_of (line s (p + j)) w) (page_of (line o (q + j)) w)
-      go none e = share_missed ns w g (missed_hole (line s p) o q (line s p + n) g w.ranges (omega arith) (rw at e))
-      go (some S) e =
+      go None e = share_missed ns w g (missed_hole (line s p) o q (line s p + n) g w.ranges (omega arith) (rw at e))
+      go (Some S) e =
           let out : (h < line o q) ⊎ (line o q + ((line s p + n) - line s p) ≤ h) = by-lt s o (λ u. inl (omega arith)) (λ u. inr (omega (arith, other))) in
           let m : Missed h ns = missed_out (line s p) o q (line s p + n) h w.ranges out in
-          let x : slot_at h (share ns w).ranges ≡ some S = share_slot ns w h m ∙ e in
-          let y : slot_at g (share ns w).ranges ≡ some S =
+          let x : slot_at h (share ns w).ranges ≡ Some S = share_slot ns w h m ∙ e in
+          let y : slot_at g (share ns w).ranges ≡ Some S =
           ap (λ rs. slot_at g rs) (share_ranges ns w)
           ∙ shared_in_lem (line s p) o q (line s p + n) g 0 w.ranges w.ranges W.rising (omega arith) (omega arith)
           ∙ ap (λ t. or_else t (slot_at g w.ranges)) (ap (λ z. slot_at z w.ranges) at ∙ e) in

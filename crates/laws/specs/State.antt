@@ -1,9 +1,8 @@
 -- What stays true of the state inside a call: `Good`.
-use Rattle.std.specs.Prelude.{◌≡◌, true, ℕ, ◌+◌, ◌≤◌, ◌<◌, length, get_or}
+use Rattle.std.specs.Prelude.{◌≡◌, true, ℕ, ◌+◌, ◌≤◌, ◌<◌, length, get_or, Some}
 use mathlib.Core.List.{List, [], ◌∷◌, Memᴰ, head_d}
 use Rattle.std.proofs.Common.{le_refl, arith}
 use Rattle.std.proofs.Math.ListN.{get_or-eq_default}
-use Rattle.std.proofs.Math.Option.{some}
 use Rattle.ranges.specs.Range.{Range, Slot, Rising}
 use Rattle.ranges.specs.Table.{named}
 use Rattle.book.specs.Cell.{Cell, free, holds, bytes_at}
@@ -41,11 +40,11 @@ pub record Good (w : Work) : Type 0 where
 
 -- ---- read at a slot
 
-pub tight_slot : (w : Work) → Tight w → (s : Slot) (x : List ℕ) → bytes_at s w.cells ≡ some x → named s.inside s.index w.ranges ≡ true
+pub tight_slot : (w : Work) → Tight w → (s : Slot) (x : List ℕ) → bytes_at s w.cells ≡ Some x → named s.inside s.index w.ranges ≡ true
 unfolding Tight
 tight_slot w T s x e = let A : At s x w.cells = bytes_frame s x w.cells e in T A.frame s.inside s.index x A.is
 
-pub fits_slot : (w : Work) → Fits w → (s : Slot) (x : List ℕ) → bytes_at s w.cells ≡ some x → length x ≡ w.size
+pub fits_slot : (w : Work) → Fits w → (s : Slot) (x : List ℕ) → bytes_at s w.cells ≡ Some x → length x ≡ w.size
 unfolding Fits
 fits_slot w F s x e = let A : At s x w.cells = bytes_frame s x w.cells e in F A.frame s.inside s.index x A.is
 

@@ -1,7 +1,6 @@
 -- What a write leaves besides bytes: the ranges of other objects, and what later pages want; and a write within one page.
-use Rattle.std.specs.Prelude.{◌≡◌, refl, List, ℕ, zero, suc, ◌+◌, ◌-◌, ◌*◌, ◌/◌, ◌%◌, ◌≤◌, ◌<◌, eqb, length, take, drop}
+use Rattle.std.specs.Prelude.{◌≡◌, refl, List, ℕ, zero, suc, ◌+◌, ◌-◌, ◌*◌, ◌/◌, ◌%◌, ◌≤◌, ◌<◌, eqb, length, take, drop, Option, Some, None}
 use Rattle.std.proofs.Common.{ap, ◌∙◌, zero-le, arith, take_all, eq-eqb, ne_eqb, one-mul}
-use Rattle.std.proofs.Math.Option.{Option, none, some}
 use Rattle.lists.specs.Test.{pick, by-eq}
 use Rattle.ranges.specs.Range.{Slot, line, slot_at}
 use Rattle.ranges.specs.Met.{meets_put, other_object}
@@ -49,8 +48,8 @@ page_beside o p f w W hp =
     (same_beside o (writable o p w) _ (go (slot_at (line o p) (writable o p w).ranges)))
   where
     go : (t : Option Slot) → (edited t f (writable o p w)).ranges ≡ (writable o p w).ranges
-    go none = refl
-    go (some s) = refl
+    go None = refl
+    go (Some s) = refl
 
 write_from_beside : (size i o p k : ℕ) (d : List ℕ) (w : Work) → Ordered w → Tight w → p + i ≤ 262144 → Beside o w (write_from size i o p k d w)
 unfolding write_from

@@ -1,8 +1,7 @@
 -- FRAMES IN USE: "the number of frames in use .. is the number of distinct frames that the book's covered pages name; all others are free."
-use Rattle.std.specs.Prelude.{◌≡◌, refl, true, false, ◌⊎◌, ℕ, zero, suc, ◌+◌, ◌-◌, ◌/◌, ◌≤◌, ◌<◌, length, get_or}
+use Rattle.std.specs.Prelude.{◌≡◌, refl, true, false, ◌⊎◌, ℕ, zero, suc, ◌+◌, ◌-◌, ◌/◌, ◌≤◌, ◌<◌, length, get_or, Option, Some, None}
 use Rattle.std.proofs.Common.{ap, ap₂, sym, ◌∙◌, inl, inr, ⊎_elim, le_refl, not-suc-le-zero, add-zero, arith, eq-eqb}
 use Rattle.std.proofs.lemmas.Bool.{false≢true}
-use Rattle.std.proofs.Math.Option.{Option, none, some}
 use mathlib.Core.List.Memᴰ
 use mathlib.Core.List.{List, [], ◌∷◌, Memᴰ}
 use Rattle.lists.specs.Test.{by-test}
@@ -197,12 +196,12 @@ record Stands (s : Slot) (f : ℕ) (cs : List Cell) : Type 0 where
 stands_held : (s : Slot) (f : ℕ) (cs : List Cell) → Stands s f cs → Held f cs
 stands_held s f cs S = record { inside = s.inside; index = s.index; bytes = S.bytes; is = S.is }
 
-frame_at_lem : (s : Slot) (n f : ℕ) (cs : List Cell) → frame_at s n cs ≡ some f → Placed n f (λ j. Stands s j cs)
+frame_at_lem : (s : Slot) (n f : ℕ) (cs : List Cell) → frame_at s n cs ≡ Some f → Placed n f (λ j. Stands s j cs)
 unfolding frame_at
 frame_at_lem s n f [] e = absurd (let z : ◌≡◌ {A = ℕ} 0 1 = cc in omega arith)
 frame_at_lem s n f (c ∷ cs) e =
     by-test (is_at s c)
-    (λ t. let h : some n ≡ some f = rw t at e in let g : n ≡ f = cc in here c t g)
+    (λ t. let h : Some n ≡ Some f = rw t at e in let g : n ≡ f = cc in here c t g)
     (λ t. placed_next n f (λ j. Stands s j cs) (λ j. Stands s j (c ∷ cs)) (λ j S. record { bytes = S.bytes; is = S.is }) (frame_at_lem s (suc n) f cs (rw t at e)))
   where
     here : (d : Cell) → is_at s d ≡ true → n ≡ f → Placed n f (λ j. Stands s j (d ∷ cs))
@@ -213,7 +212,7 @@ frame_at_lem s n f (c ∷ cs) e =
 
 record Frame (s : Slot) (n : ℕ) (cs : List Cell) : Type 0 where
   frame : ℕ
-  is : frame_at s n cs ≡ some frame
+  is : frame_at s n cs ≡ Some frame
 
 -- some frame is found where a cell stands at the slot
 frame_some : (s : Slot) (n f : ℕ) (cs : List Cell) → Stands s f cs → Frame s n cs
@@ -235,16 +234,16 @@ pub record NamedBy (b : Book) (f : ℕ) : Type 0 where
   pub page : ℕ
   pub live : get_or b.live object false ≡ true
   pub small : page < object_bytes / b.size
-  pub names : frame_of b object page ≡ some f
+  pub names : frame_of b object page ≡ Some f
 
 -- a frame that a page names is in use
-pub named_used : (b : Book) (o p f : ℕ) → frame_of b o p ≡ some f → Memᴰ f (used_frames b) × (f < length b.cells)
+pub named_used : (b : Book) (o p f : ℕ) → frame_of b o p ≡ Some f → Memᴰ f (used_frames b) × (f < length b.cells)
 unfolding frame_of
 named_used b o p f e = go (slot_at (line o p) b.ranges) e
   where
-    go : (s : Option Slot) → frame_in b.cells s ≡ some f → Memᴰ f (used_frames b) × (f < length b.cells)
-    go none h = absurd (let z : ◌≡◌ {A = ℕ} 0 1 = cc in omega arith)
-    go (some s) h =
+    go : (s : Option Slot) → frame_in b.cells s ≡ Some f → Memᴰ f (used_frames b) × (f < length b.cells)
+    go None h = absurd (let z : ◌≡◌ {A = ℕ} 0 1 = cc in omega arith)
+    go (Some s) h =
         let H : Held f b.cells = stands_held s f b.cells (placed_here f _ (frame_at_lem s 0 f b.cells h)) in
         (held_used f b.cells H, held_small f b.cells H)
 
@@ -259,13 +258,13 @@ used_named b S f m =
     let p : ℕ = r.start + (H.index - r.offset) in
     let s : Slot = record { inside = H.inside; index = H.index } in
     let j : r.offset + (line r.object p - from r) ≡ H.index = omega (arith, I.low) in
-    let e : slot_at (line r.object p) b.ranges ≡ some s =
+    let e : slot_at (line r.object p) b.ranges ≡ Some s =
     slot_mem 0 (line r.object p) r b.ranges S.order I.mem (omega arith) (omega (arith, I.low, I.high))
-    ∙ ap some (λ i. record { inside = sym I.backing i; index = j i }) in
+    ∙ ap Some (λ i. record { inside = sym I.backing i; index = j i }) in
     let F : Frame s 0 b.cells = frame_some s 0 f b.cells (record { bytes = H.bytes; is = H.is }) in
     let T : Stands s F.frame b.cells = placed_here F.frame _ (frame_at_lem s 0 F.frame b.cells F.is) in
     let g : F.frame ≡ f = S.apart F.frame f H.inside H.index T.bytes H.bytes T.is H.is in
-    record { object = r.object; page = p; live = S.owned r I.mem; small = omega (arith, I.low, I.high); names = rw e (F.is ∙ ap some g) }
+    record { object = r.object; page = p; live = S.owned r I.mem; small = omega (arith, I.low, I.high); names = rw e (F.is ∙ ap Some g) }
 
 -- THE FRAMES IN USE of a book: as many as counts gives, all distinct, exactly those that pages name; all others are free.
 pub record Frames (b : Book) : Type 0 where

@@ -1,8 +1,7 @@
 -- HOW A PAGE IS MADE PRIVATE, as one case analysis: it is present and private already, or it is settled in a range that is its backing's one holder.
 use Rattle.std.proofs.Math.Path.{◌≡◌, refl, ap}
 use Rattle.std.proofs.Common.{sym, ◌∙◌, inl, inr, ⊎_elim, le_refl}
-use Rattle.std.proofs.Math.Option.{Option, none, some}
-use Rattle.std.specs.Prelude.{◌⊎◌, leb, eqb}
+use Rattle.std.specs.Prelude.{◌⊎◌, leb, eqb, Option, Some, None}
 use mathlib.Core.List.{List, Memᴰ}
 use Prim.Native.Nat.{ℕ, suc, ◌+◌, ◌-◌, ◌≤◌, ◌<◌}
 use native.Mathlib.Omega.{arith}
@@ -27,7 +26,7 @@ pub record Private (o p : ℕ) (w : Work) : Type 0 where
   pub mem : Memᴰ r w.ranges
   pub object : r.object ≡ o
   pub once : holders r.backing w.ranges ≡ 1
-  pub slot : slot_at (line o p) w.ranges ≡ some (slot_in (line o p) r)
+  pub slot : slot_at (line o p) w.ranges ≡ Some (slot_in (line o p) r)
 
 -- what makes a range n one in which page p of object o can be settled
 pub record Settles (o p : ℕ) (w : Work) (n : Range) : Type 0 where
@@ -42,14 +41,14 @@ pub record Settles (o p : ℕ) (w : Work) (n : Range) : Type 0 where
   -- once put in it is its backing's one holder
   pub once : holders n.backing (put n w.ranges) ≡ 1
   -- no page outside it is in its backing
-  pub others : (g : ℕ) (s : Slot) → (g < from n) ⊎ (upto n ≤ g) → slot_at g w.ranges ≡ some s → s.inside ≡ n.backing → ⊥
+  pub others : (g : ℕ) (s : Slot) → (g < from n) ⊎ (upto n ≤ g) → slot_at g w.ranges ≡ Some s → s.inside ≡ n.backing → ⊥
   -- the other pages in it read as they did
   pub inner : Tight w → (g : ℕ) → from n ≤ g → g < upto n → (g ≡ line o p → ⊥) → bytes_at (slot_in g n) w.cells ≡ page_of g w
   -- a range that is its backing's one holder lies in it with the same backing, or is clear of it with another
   pub alones : (r : Range) → Memᴰ r w.ranges → holders r.backing w.ranges ≡ 1
       → ((r.backing ≡ n.backing) × (from n ≤ from r) × (upto r ≤ upto n)) ⊎ ((r.backing ≡ n.backing → ⊥) × ((upto r ≤ from n) ⊎ (upto n ≤ from r)))
   -- the other pages in it that were covered are at the slots that they were at
-  pub kept : (g : ℕ) (s : Slot) → from n ≤ g → g < upto n → (g ≡ line o p → ⊥) → slot_at g w.ranges ≡ some s → s ≡ slot_in g n
+  pub kept : (g : ℕ) (s : Slot) → from n ≤ g → g < upto n → (g ≡ line o p → ⊥) → slot_at g w.ranges ≡ Some s → s ≡ slot_in g n
   -- where the slots of its pages come from
   pub origin : (g : ℕ) → from n ≤ g → g < upto n → Origin g w.ranges (slot_in g n)
 
@@ -61,13 +60,13 @@ pub record Settled (o p : ℕ) (w : Work) (x : List ℕ) (v : Work) : Type 0 whe
 
 -- THE CASES: page p of object o, with the bytes x afterwards
 pub data Way (o p : ℕ) (w : Work) (x : List ℕ) : Work → Type 0 where
-  as_is : Private o p w → page_of (line o p) w ≡ some x → Way o p w x w
+  as_is : Private o p w → page_of (line o p) w ≡ Some x → Way o p w x w
   settled : (n : Range) → Settles o p w n → Way o p w x (settle n (slot_in (line o p) n).index x w)
 
-some_inj : (s t : Slot) → some s ≡ some t → s ≡ t
+some_inj : (s t : Slot) → Some s ≡ Some t → s ≡ t
 some_inj s t e = cc
 
-none_some : (s : Slot) → none ≡ some s → ⊥
+none_some : (s : Slot) → None ≡ Some s → ⊥
 none_some s e = let z : ◌≡◌ {A = ℕ} 0 1 = cc in omega arith
 
 module _ (o p : ℕ) (w : Work) (W : Ordered w) (hp : p < 262144) where
@@ -108,7 +107,7 @@ module _ (o p : ℕ) (w : Work) (W : Ordered w) (hp : p < 262144) where
   module _ (r : Range) (L : ℕ) (m : Memᴰ r w.ranges) (one : holders r.backing w.ranges ≡ 1) (object : r.object ≡ o)
       (longer : r.len ≤ L) (low : from r ≤ g₀) (high : g₀ < from r + L) (within : r.start + L ≤ 262144)
       (bounds : Memᴰ (keep L r) w.ranges ⊎ ((r.start + L ≡ suc p) × (r.offset + L ≤ 1048576)))
-      (gap : (g : ℕ) → upto r ≤ g → g < from r + L → slot_at g w.ranges ≡ none) where
+      (gap : (g : ℕ) → upto r ≤ g → g < from r + L → slot_at g w.ranges ≡ None) where
     the_holder : (q : Range) → Memᴰ q w.ranges → q.backing ≡ r.backing → r ≡ q
     the_holder q n e = held_once r.backing w.ranges r q one m n refl (sym e)
 
@@ -139,7 +138,7 @@ module _ (o p : ℕ) (w : Work) (W : Ordered w) (hp : p < 262144) where
         l : 0 < q.len
         l = rising_mem 0 q w.ranges W.rising n
 
-    over_others : (g : ℕ) (s : Slot) → (g < from r) ⊎ (from r + L ≤ g) → slot_at g w.ranges ≡ some s → s.inside ≡ r.backing → ⊥
+    over_others : (g : ℕ) (s : Slot) → (g < from r) ⊎ (from r + L ≤ g) → slot_at g w.ranges ≡ Some s → s.inside ≡ r.backing → ⊥
     over_others g s c e k =
         let F : Found g w.ranges s = found g w.ranges s e in
         let z : r ≡ F.r = the_holder F.r F.mem (sym (sym k ∙ ap (λ t. t.inside) F.is)) in
@@ -148,12 +147,12 @@ module _ (o p : ℕ) (w : Work) (W : Ordered w) (hp : p < 262144) where
         ⊎_elim (λ (l : g < from r). omega arith) (λ (l : from r + L ≤ g). omega arith) c
 
     -- past the window of a backing's one holder there is nothing
-    beyond : Tight w → (s : Slot) → s.inside ≡ r.backing → r.offset + r.len ≤ s.index → bytes_at s w.cells ≡ none
+    beyond : Tight w → (s : Slot) → s.inside ≡ r.backing → r.offset + r.len ≤ s.index → bytes_at s w.cells ≡ None
     beyond T s b u = go (bytes_at s w.cells) refl
       where
-        go : (t : Option (List ℕ)) → bytes_at s w.cells ≡ t → t ≡ none
-        go none e = refl
-        go (some x) e =
+        go : (t : Option (List ℕ)) → bytes_at s w.cells ≡ t → t ≡ None
+        go None e = refl
+        go (Some x) e =
             let n : In s.inside s.index w.ranges = named_in s.inside s.index w.ranges (tight_slot w T s x e) in
             let z : r ≡ n.r = the_holder n.r n.mem (sym (sym b ∙ n.backing)) in
             absurd (let hi : s.index < r.offset + r.len = rw z n.high in omega arith)
@@ -164,7 +163,7 @@ module _ (o p : ℕ) (w : Work) (W : Ordered w) (hp : p < 262144) where
         (λ v. sym (page_some g w (slot_in g r) (slot_mem 0 g r w.ranges W.rising m a v)))
         (λ v. beyond T (slot_in g r) refl (omega arith) ∙ sym (page_none g w (gap g v b)))
 
-    over_kept : (g : ℕ) (s : Slot) → from r ≤ g → g < from r + L → slot_at g w.ranges ≡ some s → s ≡ slot_in g r
+    over_kept : (g : ℕ) (s : Slot) → from r ≤ g → g < from r + L → slot_at g w.ranges ≡ Some s → s ≡ slot_in g r
     over_kept g s a b e =
         by-lt g (upto r)
         (λ v. some_inj s (slot_in g r) (sym e ∙ slot_mem 0 g r w.ranges W.rising m a v))
@@ -192,7 +191,7 @@ module _ (o p : ℕ) (w : Work) (W : Ordered w) (hp : p < 262144) where
     }
 
   -- ---- a page that no range covers is in no range
-  not_in : slot_at g₀ w.ranges ≡ none → (r : Range) → Memᴰ r w.ranges → (g₀ < from r) ⊎ (upto r ≤ g₀)
+  not_in : slot_at g₀ w.ranges ≡ None → (r : Range) → Memᴰ r w.ranges → (g₀ < from r) ⊎ (upto r ≤ g₀)
   not_in e r m =
       by-lt g₀ (from r) (λ l. inl l)
       (λ l. by-lt g₀ (upto r) (λ u. absurd (none_some _ (sym e ∙ slot_mem 0 g₀ r w.ranges W.rising m l u))) (λ u. inr u))
@@ -206,7 +205,7 @@ module _ (o p : ℕ) (w : Work) (W : Ordered w) (hp : p < 262144) where
       (λ u. absurd (let c : holders r.backing w.ranges ≡ holders q.backing w.ranges = ap (λ x. holders x w.ranges) (one_range g₀ r q m n l u lq uq) in omega arith))
       (λ u. inr u))
 
-  add_in_settled : (r : Range) → previous g₀ w.ranges ≡ some r → Settled o p w (blank w) (add_in o p w r)
+  add_in_settled : (r : Range) → previous g₀ w.ranges ≡ Some r → Settled o p w (blank w) (add_in o p w r)
   unfolding add_in
   add_in_settled r e =
       let m : Memᴰ r w.ranges = previous_mem g₀ w.ranges r e in
@@ -245,8 +244,8 @@ module _ (o p : ℕ) (w : Work) (W : Ordered w) (hp : p < 262144) where
   add_page_settled = go (previous g₀ w.ranges) refl
     where
       go : (q : Option Range) → previous g₀ w.ranges ≡ q → Settled o p w (blank w) (add_at o p w q)
-      go none e = own_settled (blank w) (λ q n _. not_in (previous_none 0 g₀ g₀ w.ranges W.rising e (le_refl g₀)) q n)
-      go (some r) e = add_in_settled r e
+      go None e = own_settled (blank w) (λ q n _. not_in (previous_none 0 g₀ g₀ w.ranges W.rising e (le_refl g₀)) q n)
+      go (Some r) e = add_in_settled r e
 
   settled_way : (x : List ℕ) (v : Work) → Settled o p w x v → Way o p w x v
   settled_way x v S = rw S.is (settled S.n S.settles)
@@ -261,10 +260,10 @@ module _ (o p : ℕ) (w : Work) (W : Ordered w) (hp : p < 262144) where
     where
       go : (s : Option Slot) → slot_at g₀ w.ranges ≡ s → (y : Option (List ℕ)) → slot_bytes w.cells (slot_at g₀ w.ranges) ≡ y
           → Way o p w (seen w.size y) (privately o p w s y)
-      go none e none f = add_page_way
-      go none e (some y) f = absurd (let a : none ≡ some y = rw e at f in let z : ◌≡◌ {A = ℕ} 0 1 = cc in omega arith)
-      go (some s) e none f = add_page_way
-      go (some s) e (some y) f =
+      go None e None f = add_page_way
+      go None e (Some y) f = absurd (let a : None ≡ Some y = rw e at f in let z : ◌≡◌ {A = ℕ} 0 1 = cc in omega arith)
+      go (Some s) e None f = add_page_way
+      go (Some s) e (Some y) f =
           let F : Found g₀ w.ranges s = found g₀ w.ranges s e in
           let b : s.inside ≡ F.r.backing = ap (λ x. x.inside) F.is in
           by-test (is_shared s.inside w.ranges)
@@ -275,5 +274,5 @@ module _ (o p : ℕ) (w : Work) (W : Ordered w) (hp : p < 262144) where
             mem = F.mem;
             object = omega (arith, F.low, F.high);
             once = held_some F.r.backing w.ranges F.r F.mem refl (rw (← b) (ltb-false _ _ t));
-            slot = e ∙ ap (λ x. some x) F.is;
+            slot = e ∙ ap (λ x. Some x) F.is;
           }) f))

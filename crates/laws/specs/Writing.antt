@@ -1,7 +1,6 @@
 -- WRITING, as a change of files: the span becomes the data, every other byte of every object stays; for any page size.
-use Rattle.std.specs.Prelude.{◌≡◌, refl, ◌⊎◌, List, ℕ, zero, suc, ◌+◌, ◌-◌, ◌*◌, ◌/◌, ◌%◌, ◌≤◌, ◌<◌, min, length, get_or, drop}
+use Rattle.std.specs.Prelude.{◌≡◌, refl, ◌⊎◌, List, ℕ, zero, suc, ◌+◌, ◌-◌, ◌*◌, ◌/◌, ◌%◌, ◌≤◌, ◌<◌, min, length, get_or, drop, Some}
 use Rattle.std.proofs.Common.{ap, sym, ◌∙◌, inl, inr, ⊎_elim, zero-le, le_refl, zero-mul, suc-mul, mod-lt, div-add-mod', add-mul, arith, length-take, length-drop, get_or-take, get_or-drop, eq-eqb}
-use Rattle.std.proofs.Math.Option.{some}
 use Rattle.lists.specs.Test.{by-eq}
 use Rattle.ranges.specs.Range.{line}
 use Rattle.book.specs.Page.{touched, over}
@@ -83,7 +82,7 @@ module _ (i o p k : ℕ) (d : List ℕ) (w : Work) (G : Good w) (hs : 4096 ≤ w
 
   pieces : Rewrites o (p * w.size) ((p + i) * w.size) (λ y. get_or (piece (y / w.size - p)) (y % w.size) 0) w v
   pieces =
-      pages_rewrite o p i (λ j. some (piece j)) w v hs (write_from_size w.size i o p k d w G.whole G.tight top) top
+      pages_rewrite o p i (λ j. Some (piece j)) w v hs (write_from_size w.size i o p k d w G.whole G.tight top) top
       (write_pages w.size i o p k d w G.whole G.tight top enough) (write_from_out w.size i o p k d w G.whole G.tight top)
 
   module _ (y : ℕ) (h : p * w.size ≤ y) where

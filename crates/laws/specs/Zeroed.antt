@@ -1,7 +1,6 @@
 -- Steps that leave zeros, as changes of files: whole pages left uncovered, a page added, bytes cleared in a part of a page; for any page size.
-use Rattle.std.specs.Prelude.{◌≡◌, refl, List, ℕ, suc, ◌+◌, ◌-◌, ◌*◌, ◌/◌, ◌%◌, ◌≤◌, ◌<◌, eqb, length, get_or, replicate}
+use Rattle.std.specs.Prelude.{◌≡◌, refl, List, ℕ, suc, ◌+◌, ◌-◌, ◌*◌, ◌/◌, ◌%◌, ◌≤◌, ◌<◌, eqb, length, get_or, replicate, Option, Some, None}
 use Rattle.std.proofs.Common.{ap, ◌∙◌, ⊎_elim, arith, eq-eqb, ne_eqb, div-add-mod', mod-lt}
-use Rattle.std.proofs.Math.Option.{Option, none, some}
 use Rattle.std.proofs.lemmas.List.{length-replicate, get_or-replicate}
 use Rattle.lists.specs.Test.{pick, by-eq}
 use Rattle.ranges.specs.Range.{line}
@@ -28,7 +27,7 @@ pub uncover_zeros : (o p n : ℕ) (w : Work) → 4096 ≤ w.size → p + n ≤ 2
 uncover_zeros o p n w hs top =
     rewrites_as o (p * w.size) ((p + n) * w.size) (λ y. get_or (replicate w.size 0) (y % w.size) 0) (λ _. 0) w (uncover o p n w)
     (λ y l m. get_or-replicate w.size (y % w.size) 0 0 (mod-lt y {m = w.size} (omega arith)))
-    (pages_rewrite o p n (λ _. none) w (uncover o p n w) hs (uncover_size o p n w) top
+    (pages_rewrite o p n (λ _. None) w (uncover o p n w) hs (uncover_size o p n w) top
     (λ j l. uncover_in o p n w (line o (p + j)) (omega arith) (omega arith)) (uncover_out o p n w))
 
 -- a page added, with a frame for it, reads as zeros
@@ -38,20 +37,20 @@ add_zeros o p w G hs hp h =
     rewrites_cast o (p * w.size) (p * w.size) ((p + 1) * w.size) (suc p * w.size) (λ _. 0) w (add_page o p w) refl (ap (λ m. m * w.size) (omega arith))
     (rewrites_as o (p * w.size) ((p + 1) * w.size) (λ y. get_or (replicate w.size 0) (y % w.size) 0) (λ _. 0) w (add_page o p w)
     (λ y l m. get_or-replicate w.size (y % w.size) 0 0 (mod-lt y {m = w.size} (omega arith)))
-    (pages_rewrite o p 1 (λ _. some (blank w)) w (add_page o p w) hs (way_size o p _ w _ way) (omega arith)
+    (pages_rewrite o p 1 (λ _. Some (blank w)) w (add_page o p w) hs (way_size o p _ w _ way) (omega arith)
     (λ j l. let e : p + j ≡ p = omega arith in rw e (way_here o p _ w _ way G.whole (spare_room w G.whole h)))
     (λ g c. way_elsewhere o p _ w _ way G.whole G.tight g (λ e. ⊎_elim (λ (l : g < line o p). omega arith) (λ (l : line o p + 1 ≤ g). omega arith) c))))
 
 -- n bytes of one page cleared: with a frame, if the page is present and wants one, they read as zeros
 module _ (o x n : ℕ) (w : Work) (G : Good w) (hs : 4096 ≤ w.size) (fit : x % w.size + n ≤ w.size) (h : x + n ≤ 1073741824)
-    (ok : (y : List ℕ) → page_of (line o (x / w.size)) w ≡ some y → pick (eqb n 0) 0 (wants o (x / w.size) w) ≤ length w.spare) where
+    (ok : (y : List ℕ) → page_of (line o (x / w.size)) w ≡ Some y → pick (eqb n 0) 0 (wants o (x / w.size) w) ≤ length w.spare) where
   abbrev p : ℕ
   p = x / w.size
 
   back : p * w.size + x % w.size ≡ x
   back = div-add-mod' x w.size
 
-  absent_zeros : page_of (line o p) w ≡ none → Rewrites o x (x + n) (λ _. 0) w w
+  absent_zeros : page_of (line o p) w ≡ None → Rewrites o x (x + n) (λ _. 0) w w
   absent_zeros e = record {
     within = λ y l m.
         let r : ℕ = y - p * w.size in
@@ -62,7 +61,7 @@ module _ (o x n : ℕ) (w : Work) (G : Good w) (hs : 4096 ≤ w.size) (fit : x %
   }
 
   -- a present page is written with zeros
-  present_zeros : 0 < n → (z : List ℕ) → page_of (line o p) w ≡ some z → Rewrites o x (x + n) (λ _. 0) w (write_page o p (over (x % w.size) (replicate n 0)) w)
+  present_zeros : 0 < n → (z : List ℕ) → page_of (line o p) w ≡ Some z → Rewrites o x (x + n) (λ _. 0) w (write_page o p (over (x % w.size) (replicate n 0)) w)
   present_zeros hn z e =
       let l0 : length (replicate {A = ℕ} n 0) ≡ n = length-replicate n 0 in
       let f : x % w.size + length (replicate {A = ℕ} n 0) ≤ w.size = omega arith in
@@ -79,5 +78,5 @@ module _ (o x n : ℕ) (w : Work) (G : Good w) (hs : 4096 ≤ w.size) (fit : x %
       (λ e. rw (ne_eqb n 0 e) (go (omega arith) (page_of (line o p) w) refl))
     where
       go : 0 < n → (t : Option (List ℕ)) → page_of (line o p) w ≡ t → Rewrites o x (x + n) (λ _. 0) w (cleared o p (x % w.size) n w t)
-      go hn none e = absent_zeros e
-      go hn (some z) e = present_zeros hn z e
+      go hn None e = absent_zeros e
+      go hn (Some z) e = present_zeros hn z e

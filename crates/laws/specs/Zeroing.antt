@@ -1,8 +1,7 @@
 -- ZEROING: it takes no more frames and slots than are counted at entry, and with those frames the span reads as zeros and every other byte of every
 -- object as before.
-use Rattle.std.specs.Prelude.{◌≡◌, refl, eqb, length, replicate}
+use Rattle.std.specs.Prelude.{◌≡◌, refl, eqb, length, replicate, Option, Some, None}
 use Rattle.std.proofs.Common.{ap, sym, ◌∙◌, le_refl, zero-mul, add-mul, arith, eq-eqb, ne_eqb}
-use Rattle.std.proofs.Math.Option.{Option, none, some}
 use mathlib.Core.List.{List, tail}
 use Prim.Native.Nat.{ℕ, ◌+◌, ◌*◌, ◌/◌, ◌%◌, ◌≤◌, ◌<◌, min, zero-le}
 use Rattle.lists.specs.Test.{pick, by-eq}
@@ -30,13 +29,13 @@ common_small private = zero-le
 common_small shared = le_refl 1
 
 -- an absent page is not cleared
-absent_common : (o p : ℕ) (w : Work) → page_of (line o p) w ≡ none → common (state_of o p w) ≡ 0
+absent_common : (o p : ℕ) (w : Work) → page_of (line o p) w ≡ None → common (state_of o p w) ≡ 0
 unfolding state_of
 absent_common o p w e = rw e (go (slot_at (line o p) w.ranges))
   where
-    go : (s : Option Slot) → common (state_in w s none) ≡ 0
-    go none = refl
-    go (some s) = refl
+    go : (s : Option Slot) → common (state_in w s None) ≡ 0
+    go None = refl
+    go (Some s) = refl
 
 -- while one page is cleared, a later page comes to count no more than it did
 later_less : (o x n : ℕ) (w : Work) → Good w → 4096 ≤ w.size → x + n ≤ 1073741824 → (q : ℕ) → (0 < n → x / w.size < q)
@@ -54,16 +53,16 @@ later_less o x n w G hs h q l =
     f = over (x % w.size) (replicate n 0)
 
     at : 0 < n → (y : Option (List ℕ)) → page_of (line o q) (write_page o p f w) ≡ y → common (state_of o q (write_page o p f w)) ≤ common (state_of o q w)
-    at m none d = omega (arith, absent_common o q (write_page o p f w) d)
-    at m (some y) d =
+    at m None d = omega (arith, absent_common o q (write_page o p f w) d)
+    at m (Some y) d =
         let hp : p < 262144 = page_in w.size x n hs m h in
         let k : p < q = l m in
-        let d' : page_of (line o q) w ≡ some y = sym (write_elsewhere o p f w G.whole G.tight hp (line o q) (λ c. omega arith)) ∙ d in
+        let d' : page_of (line o q) w ≡ Some y = sym (write_elsewhere o p f w G.whole G.tight hp (line o q) (λ c. omega arith)) ∙ d in
         omega (arith, present_wants o q (write_page o p f w) y d, present_wants o q w y d', wants_less o p f w G.whole G.tight hp q (λ c. omega arith))
 
     go : 0 < n → (t : Option (List ℕ)) → common (state_of o q (cleared o p (x % w.size) n w t)) ≤ common (state_of o q w)
-    go m none = le_refl _
-    go m (some z) = at m (page_of (line o q) (write_page o p f w)) refl
+    go m None = le_refl _
+    go m (Some z) = at m (page_of (line o q) (write_page o p f w)) refl
 
 module _ (o x n : ℕ) (w : Work) (G : Good w) (hs : 4096 ≤ w.size) (h : x + n ≤ 1073741824) where
   abbrev P : Span
@@ -159,7 +158,7 @@ module _ (o x n : ℕ) (w : Work) (G : Good w) (hs : 4096 ≤ w.size) (h : x + n
         (uncover_zeros o q P.whole u (rw KU.size hs) (whole_in w.size x n ps 262144 (object_in w.size x n hs h))))
 
     -- the tail's frame is there, by another name of the page size
-    pub tail_room : (m : ℕ) → m ≡ w.size → (y : List ℕ) → page_of (line o ((x + t) / m)) v ≡ some y → pick (eqb P.tail 0) 0 (wants o ((x + t) / m) v) ≤ length v.spare
+    pub tail_room : (m : ℕ) → m ≡ w.size → (y : List ℕ) → page_of (line o ((x + t) / m)) v ≡ Some y → pick (eqb P.tail 0) 0 (wants o ((x + t) / m) v) ≤ length v.spare
     tail_room m e = rw e (λ y d. rw (present_wants o pt v y d) (omega (arith, split, head_counts, tail_counts, to_v.spare)))
 
     last : Rewrites o (x + t) (x + n) (λ _. 0) v (clear o (x + t) P.tail v)

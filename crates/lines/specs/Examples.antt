@@ -1,17 +1,16 @@
 -- Document 01's lines, and lines that are malformed: theorems by computation. What is expected is copied from document 01, or written by hand from it.
-use Rattle.std.specs.Prelude.{◌≡◌, refl, List, [], ◌∷◌, ◌++◌, ℕ, replicate, Option, None, Some}
+use Rattle.std.specs.Prelude.{◌≡◌, refl, List, [], ◌∷◌, ◌++◌, ℕ, replicate, Option, None, Some, codes}
 use Prim.Native.String.{String}
 use Rattle.book.specs.Compute.{computing}
 use Rattle.book.specs.Book.{Call, new_object, drop_object, write, read, add, look_up, copy, shadow, zero_out, counts, created}
 use Rattle.hexadecimal.specs.Hex.{value_of, bytes_of, digits_of}
 use Rattle.replies.specs.Line.{rows, chosen, parse, spoken, line_answer, line_answers}
-use Rattle.lines.specs.Text.{codes}
 
 abbrev asks : String → Option Call
 asks t = parse (codes t)
 
 unfoldable reading : ℕ
-unfolding value_of bytes_of digits_of rows chosen parse spoken line_answer line_answers codes computing
+unfolding value_of bytes_of digits_of rows chosen parse spoken line_answer line_answers computing
 reading = 0
 
 abbrev texts : List String → List (List ℕ)

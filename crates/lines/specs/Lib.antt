@@ -1,4 +1,3 @@
 pub mod Parse
 pub mod Did
-pub mod Text
 pub mod Examples

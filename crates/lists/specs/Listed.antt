@@ -3,7 +3,7 @@
 use Rattle.std.specs.Prelude.{◌≡◌, List, [], ◌∷◌, map, get_or, length, replicate, set}
 use Rattle.std.proofs.Math.Path.{refl, ap, ap₂}
 use Prim.Native.Nat.{ℕ, zero, suc, ◌<◌}
-use Rattle.std.proofs.Common.{arith, le_of_suc-le-suc, not-suc-le-zero}
+use Rattle.std.proofs.Common.{sym, ◌∙◌, arith, le_of_suc-le-suc, not-suc-le-zero, ext_get_or}
 
 module _ {A : Type 0} where
   unfoldable pub listed : (ℕ → A) → ℕ → List A
@@ -45,6 +45,12 @@ module _ {A : Type 0} where
   listed_set f g (suc n) zero h = ap (λ x. g 0 ∷ x) (listed_ext (λ k. g (suc k)) (λ k. f (suc k)) n (λ k l. h (suc k) (omega arith) (λ e. omega arith)))
   listed_set f g (suc n) (suc i) h =
       ap₂ (λ x y. x ∷ y) (h 0 (omega arith) (λ e. omega arith)) (listed_set (λ k. f (suc k)) (λ k. g (suc k)) n i (λ k l e. h (suc k) (omega arith) (λ z. e (omega arith))))
+
+-- a list is tabulated from its elements
+pub listed_all : {A : Type 0} (d : A) (l : List A) (n : ℕ) → length l ≡ n → listed (λ k. get_or l k d) n ≡ l
+listed_all d l n e =
+    let m = length_listed (λ k. get_or l k d) n in
+    ext_get_or d (listed (λ k. get_or l k d) n) l (m ∙ sym e) (λ i h. get_d_listed (λ k. get_or l k d) n i d (omega (arith, m)))
 
 pub listed_map : {A : Type 0} {B : Type 0} (h : A → B) (f : ℕ → A) (n : ℕ) → map h (listed f n) ≡ listed (λ k. h (f k)) n
 unfolding listed

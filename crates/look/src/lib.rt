@@ -9,20 +9,14 @@ ghost use Rattle.look.specs.Look.{index_in};
 use table::PageRange;
 
 // A present page: the number of its backing and its frame.
-#[derive(Clone, Copy)]
+#[derive(Clone, Copy, PartialEq, Eq)]
 pub struct Located {
     pub backing: u32,
     pub frame: usize,
 }
 
-#[derive(Clone, Copy)]
-pub enum PageAt {
-    Absent,
-    Present(Located),
-}
-
 // "absent, private, shared"
-#[derive(Clone, Copy)]
+#[derive(Clone, Copy, PartialEq, Eq)]
 pub enum State {
     Absent,
     Private,
@@ -34,7 +28,5 @@ pub fn index_in(r: PageRange, g: usize) -> u32
     requires { (Small r) × (from (ranged r) ≤ g) × (g < upto (ranged r)) }
     ensures { result ≡ index_in r g }
 {
-    let s = r.first();
-    let k = (g - s) as u32;
-    r.offset + k
+    r.offset + (g - r.first()) as u32
 }

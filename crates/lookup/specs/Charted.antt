@@ -1,13 +1,13 @@
 -- The chains of a store's frames, and the search for a frame along the chain of its place.
-use Rattle.std.specs.Prelude.{◌≡◌, refl, Bool, true, false, not, ◌&&◌, List, ℕ, ◌≤◌, ◌<◌, eqb, ltb, get_or, length, min, take}
+use Rattle.std.specs.Prelude.{◌≡◌, refl, Bool, true, false, not, ◌&&◌, List, [], ◌∷◌, ℕ, ◌≤◌, ◌<◌, eqb, ltb, get_or, length, min, take, Option, Some, None}
 use Rattle.std.proofs.Common.{sym, ap, ◌∙◌, arith, get_or-take, eq-eqb, ne_eqb, eqb-true, ltb-true}
 use Rattle.std.proofs.lemmas.Bool.{false≢true}
 use Rattle.std.proofs.lemmas.List.{length-take}
-use Rattle.frames.specs.declared.Frame.{Frame}
-use Rattle.frames.specs.declared.Frame.TheVariants.{At, Nothing}
+use Rattle.std.proofs.Props.{props}
+use Rattle.ranges.specs.Range.{Ranged, Rising, upto}
 use Rattle.places.specs.declared.Place.{Place}
 use Rattle.store.specs.declared.Store.{Store}
-use Rattle.charts.specs.declared.Chains.{Chains}
+use Rattle.chains.specs.declared.Chains.{Chains}
 use Rattle.charts.specs.declared.Charts.{Charts}
 use Rattle.lists.specs.Test.{and_left, and_right, by-lt, by-test}
 use Rattle.lists.specs.Every.{all_below, below_at}
@@ -32,6 +32,19 @@ pub record Charted (s : Store) (c : Charts) : Type 0 where
   pub few : s.frames ≤ 1024
   pub places : s.frames ≤ length s.places
   pub lone : Lone s
+
+-- that a table is in order has one proof at most, and so has all of that: ghost fields ask it
+rising_prop : {B : Type 0} (low : ℕ) (rs : List (Ranged B)) → IsProp (Rising low rs)
+unfolding Rising
+rising_prop low [] = hlevel props
+rising_prop low (r ∷ rs) = hlevel (props, rising_prop (upto r) rs)
+
+pub charted_prop : (s : Store) (c : Charts) → IsProp (Charted s c)
+charted_prop s c = hlevel (props, rising_prop)
+
+-- what calls of a finder answer: the frame that stands at this backing and index
+abbrev pub Finds : Store → (ℕ → ℕ → Option ℕ → Type 0) → Type 0
+Finds s answers = (b i : ℕ) (frame : Option ℕ) → b < 4294967296 → i < 4294967296 → answers b i frame → frame ≡ frame_at b i 0 (take s.frames s.places)
 
 pub sound_charted : (s : Store) (c : Charts) → Sized s → Sound s → FrameChains s.places s.frames c.frames → Charted s c
 sound_charted s c Z S F = record { framed = F; table = sound_table s Z S; few = S.few_frames; places = omega (arith, Z.places, S.few_frames); lone = record { alone = S.alone } }
@@ -70,7 +83,7 @@ module _ (ps : List Place) (n b i : ℕ) where
   at f h = get_or-take n ps f nowhere h
 
   -- none stands there
-  pub found_none : true ≡ all_below (lacks ps b i) n → Nothing ≡ frame_at b i 0 (take n ps)
+  pub found_none : true ≡ all_below (lacks ps b i) n → None ≡ frame_at b i 0 (take n ps)
   found_none e = go (frame_at b i 0 (take n ps)) refl
     where
       there : (f : ℕ) → FirstAt b i 0 (take n ps) f → ⊥
@@ -79,13 +92,13 @@ module _ (ps : List Place) (n b i : ℕ) where
           let t : stands_at b i (place_at ps F.at) ≡ true = ap (stands_at b i) (sym (at F.at h)) ∙ F.stands in
           false≢true (sym (ap not t) ∙ below_at (lacks ps b i) n (sym e) F.at h)
 
-      go : (q : Frame) → frame_at b i 0 (take n ps) ≡ q → Nothing ≡ q
-      go Nothing h = refl
-      go (At f) h = absurd (there f (frame_found b i 0 (take n ps) f h))
+      go : (q : Option ℕ) → frame_at b i 0 (take n ps) ≡ q → None ≡ q
+      go None h = refl
+      go (Some f) h = absurd (there f (frame_found b i 0 (take n ps) f h))
 
   -- a frame that stands there, no two being at one place
   pub found_there : n ≤ length ps → ((f g : ℕ) → g < f → f < n → ((place_at ps f).backing ≡ 0 → ⊥) → (place_at ps g).backing ≡ (place_at ps f).backing → (place_at ps g).index ≡ (place_at ps f).index → ⊥)
-      → (k : ℕ) → k < n → stands_at b i (place_at ps k) ≡ true → At k ≡ frame_at b i 0 (take n ps)
+      → (k : ℕ) → k < n → stands_at b i (place_at ps k) ≡ true → Some k ≡ frame_at b i 0 (take n ps)
   found_there m alone k l t = go (frame_at b i 0 (take n ps)) refl
     where
       -- two frames there, one above the other
@@ -105,10 +118,10 @@ module _ (ps : List Place) (n b i : ℕ) where
           let e : F.at ≡ f = omega (arith, F.number) in
           same F.at h (ap (stands_at b i) (sym (at F.at h)) ∙ F.stands) ∙ e
 
-      go : (q : Frame) → frame_at b i 0 (take n ps) ≡ q → At k ≡ q
-      go Nothing h =
+      go : (q : Option ℕ) → frame_at b i 0 (take n ps) ≡ q → Some k ≡ q
+      go None h =
           absurd (false≢true (sym (frame_none b i 0 (take n ps) h k (omega (arith, long))) ∙ ap (stands_at b i) (at k l) ∙ t))
-      go (At f) h = ap At (first f (frame_found b i 0 (take n ps) f h))
+      go (Some f) h = ap Some (first f (frame_found b i 0 (take n ps) f h))
 
 -- ---- the walk along the chain of a place: a frame outside of it stands elsewhere
 pub walk_frames : (ps : List Place) (n : ℕ) (c : Chains) (b i : ℕ) → FrameChains ps n c → Walk c.next (lacks ps b i) n (get_or c.heads (chain_to b i) 0)

@@ -1,10 +1,9 @@
 -- A range of a table that covers a page is the one that a search finds.
-use Rattle.std.specs.Prelude.{◌≡◌, List, ℕ, ◌+◌, ◌-◌, ◌≤◌, ◌<◌, get_or, take}
+use Rattle.std.specs.Prelude.{◌≡◌, List, ℕ, ◌+◌, ◌-◌, ◌≤◌, ◌<◌, get_or, take, Some}
 use Rattle.std.proofs.Common.{ap, arith}
 use Rattle.ranges.specs.Range.{from, upto}
 use Rattle.ranges.specs.Search.{rising_next}
 use Rattle.table.specs.declared.PageRange.{PageRange}
-use Rattle.table.specs.declared.Found.TheVariants.{At}
 use Rattle.table.specs.Table.{Table, covering_at, ranged, ranged_of, zero_range}
 use Rattle.table.specs.Searching.{covers_it, low_more, starts_found, used_at, used_length}
 
@@ -20,7 +19,7 @@ module _ (R : List PageRange) (count : ℕ) (T : Table R count) (k g : ℕ) (ins
         ap (λ r. from r) (used_at R count T i b),
       )
 
-  pub covers_found : At k ≡ covering_at g (ranged_of (take count R))
+  pub covers_found : Some k ≡ covering_at g (ranged_of (take count R))
   covers_found =
       let e : k + 1 - 1 ≡ k = omega arith in
       let s = starts_found R count T (g + 1) (k + 1) (omega arith) (low_more R count T (g + 1) k inside (omega arith)) behind in

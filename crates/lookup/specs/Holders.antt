@@ -1,20 +1,15 @@
 -- The holders of a backing, met along one chain of a store's ranges.
 use Rattle.std.proofs.Math.Path.{◌≡◌, ap}
-use Rattle.std.specs.Prelude.{refl, Bool, true, false, ℕ, zero, suc, ◌+◌, ◌-◌, ◌%◌, ◌≤◌, ◌<◌, drop, get_or, length, min, take}
+use Rattle.std.specs.Prelude.{refl, Bool, true, false, ℕ, zero, suc, ◌+◌, ◌-◌, ◌%◌, ◌≤◌, ◌<◌, drop, get_or, length, min, take, Option, Some, None, IfSome}
 use Rattle.std.proofs.Common.{sym, ◌∙◌, le_refl, add-one, arith, eq-eqb, le-ltb, lt-ltb}
 use Rattle.std.proofs.lemmas.Bool.{false≢true}
-use Rattle.std.proofs.lemmas.List.{take_min}
+use Rattle.std.proofs.lemmas.List.{length-take, take_min}
 use mathlib.Core.List.{List}
-use Rattle.frames.specs.declared.Frame.{Frame}
-use Rattle.frames.specs.declared.Frame.TheVariants.{At, Nothing}
-use Rattle.table.specs.declared.Found.{Found}
-use Rattle.table.specs.declared.Found.TheVariants as found
 use Rattle.table.specs.declared.PageRange.{PageRange}
 use Rattle.look.specs.declared.Located.{Located}
-use Rattle.look.specs.declared.PageAt.TheVariants.{Present}
 use Rattle.look.specs.declared.State.TheVariants as state
 use Rattle.store.specs.declared.Store.{Store}
-use Rattle.charts.specs.declared.Chains.{Chains}
+use Rattle.chains.specs.declared.Chains.{Chains}
 use Rattle.lists.specs.Test.{by-eq, by-lt, pick}
 use Rattle.ranges.specs.Table.{holders}
 use Rattle.table.specs.Table.{number_of, ranged_of, ranges_of, zero_range, covering_at}
@@ -125,26 +120,36 @@ module _ (s : Store) (c : Chains) (b : ℕ) (m : Bool) (k : ℕ) (M : Meets s.ra
   pub meets_private : k ≡ 0 → state.Private ≡ shared_in s b
   meets_private z = rw (le-ltb 1 (holders b (ranges_of (used s))) (meets_end s.ranges s.count c b m k M z))
 
--- a page that is present has a backing with a number
+-- a page that is present has a backing with a number, and a frame of the store
 module _ (s : Store) (g : ℕ) (l : Located) where
   abbrev at : ℕ → PageRange
   at k = get_or s.ranges k zero_range
 
-  abbrev frame : ℕ → Frame
+  abbrev frame : ℕ → Option ℕ
   frame k = frame_at (number_of (at k).backing) (index_in (at k) g) 0 (take s.frames s.places)
 
-  pub located_positive : located s g ≡ Present l → 0 < l.backing
+  both : located s g ≡ Some l → (0 < l.backing) × (l.frame < s.frames)
   unfolding located
-  located_positive h = go (covering_at g (ranged_of (used s))) h
+  both h = go (covering_at g (ranged_of (used s))) h
     where
-      in_frame_lem : (k : ℕ) (f : Frame) → frame k ≡ f → in_frame (number_of (at k).backing) f ≡ Present l → 0 < l.backing
-      in_frame_lem k Nothing q e = absurd (let z : ◌≡◌ {A = ℕ} 0 1 = cc in omega arith)
-      in_frame_lem k (At f) q e =
+      in_frame_lem : (k : ℕ) (f : Option ℕ) → frame k ≡ f → in_frame (number_of (at k).backing) f ≡ Some l → (0 < l.backing) × (l.frame < s.frames)
+      in_frame_lem k None q e = absurd (let z : ◌≡◌ {A = ℕ} 0 1 = cc in omega arith)
+      in_frame_lem k (Some f) q e =
           let z : record { backing = number_of (at k).backing; frame = f } ≡ l = cc in
           let F = frame_found (number_of (at k).backing) (index_in (at k) g) 0 (take s.frames s.places) f q in
           let b = there_positive (number_of (at k).backing) (index_in (at k) g) (place_at (take s.frames s.places) F.at) F.stands in
-          omega (arith, ap (λ w. w.backing) z)
+          (omega (arith, ap (λ w. w.backing) z), omega (arith, ap (λ w. w.frame) z, F.inside, F.number, length-take s.frames s.places))
 
-      go : (c : Found) → in_found s g c ≡ Present l → 0 < l.backing
-      go found.Missing e = absurd (let z : ◌≡◌ {A = ℕ} 0 1 = cc in omega arith)
-      go (found.At k) e = in_frame_lem k (frame k) refl e
+      go : (c : Option ℕ) → in_found s g c ≡ Some l → (0 < l.backing) × (l.frame < s.frames)
+      go None e = absurd (let z : ◌≡◌ {A = ℕ} 0 1 = cc in omega arith)
+      go (Some k) e = in_frame_lem k (frame k) refl e
+
+  pub located_positive : located s g ≡ Some l → 0 < l.backing
+  located_positive h = (both h).0
+
+  pub located_inside : located s g ≡ Some l → l.frame < s.frames
+  located_inside h = (both h).1
+
+pub inside_found : (s : Store) (g : ℕ) (page : Option Located) → page ≡ located s g → IfSome page (λ l. l.frame < s.frames)
+inside_found s g None e = tt
+inside_found s g (Some l) e = located_inside s g l (sym e)

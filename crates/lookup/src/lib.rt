@@ -1,89 +1,80 @@
 // WHERE A PAGE OF AN OBJECT IS: the slot of the range that covers it, its frame, and whether it is shared, by the charts of the store.
 #![tactic(auto)]
 
-ghost use Rattle.std.specs.Prelude.{◌≡◌, true, ◌≤◌, ◌<◌, take};
+ghost use Rattle.std.specs.Prelude.{◌≡◌, true, ◌≤◌, ◌<◌, take, Some, IfSome};
 ghost use Rattle.ranges.specs.Range.{from, upto};
-ghost use Rattle.table.specs.declared.Found.TheVariants.{At};
 ghost use Rattle.table.specs.Table.{covering_at, ranged, ranged_of, Small, Table};
 ghost use Rattle.store.specs.Abs.{used};
+ghost use Rattle.store.specs.Sound.{Sized};
 ghost use Rattle.places.specs.Places.{frame_at};
 ghost use Rattle.look.specs.Look.{in_range, located, private_in, shared_in, seen};
 ghost use Rattle.charts.specs.Charts.{FrameChains, RangeChains};
-ghost use Rattle.lookup.specs.Charted.{Charted, Lone};
+ghost use Rattle.lookup.specs.Charted.{charted_prop, Charted, Finds, Lone};
 
 use charts::{Charts, chain_by, chain_to};
-use frames::Frame;
-use look::{Located, PageAt, State};
-use places::stands_at;
+use look::{Located, State};
 use store::Store;
-use table::{Found, PageRange, number};
+use table::PageRange;
+
+// Nothing is done. The lengths of a store's tables, which its type has, are told to the proofs: they know them once an entry is read.
+pub fn lengths(s: &Store)
+    ensures { Sized s.now }
+{
+    let _word = s.free[0];
+}
 
 // The frame that stands at this backing and index: a walk along the chain of that place.
-fn frame_of(s: &Store, charts: &Charts, backing: u32, index: u32) -> Frame
+pub fn frame_of(s: &Store, charts: &Charts, backing: u32, index: u32) -> Option<usize>
     requires { (FrameChains s.now.places s.now.frames charts.now.frames) × (s.now.frames ≤ 1024) × Lone s.now }
     ensures { result ≡ frame_at backing index 0 (take s.now.frames s.now.places) }
 {
+    // by hand: a chain is of indices, since memory is fixed
     let mut link = charts.frames.heads[chain_to(backing, index)] as usize;
     while 0 < link {
         let frame = link - 1;
-        if stands_at(s.places[frame], backing, index) {
-            return Frame::At(frame);
+        if s.places[frame].stands_at(backing, index) {
+            return Some(frame);
         }
         link = charts.frames.next[frame] as usize;
     }
-    Frame::Nothing
-}
-
-// "A backing held by two or more ranges is shared.": a walk along the chain of the backing, until two are met.
-fn sharing(s: &Store, charts: &Charts, backing: u32) -> State
-    requires { (RangeChains s.now.ranges s.now.count charts.now.ranges) × (s.now.count ≤ 512) }
-    ensures { result ≡ shared_in s.now backing }
-{
-    let mut met = false;
-    let mut next = charts.ranges.heads[chain_by(backing)] as usize;
-    while 0 < next {
-        let slot = next - 1;
-        if number(s.ranges[slot].backing) == backing {
-            if met {
-                return State::Shared;
-            }
-            met = true;
-        }
-        next = charts.ranges.next[slot] as usize;
-    }
-    State::Private
+    None
 }
 
 // Page g of the line, which range r covers.
-fn in_range(s: &Store, charts: &Charts, r: PageRange, g: usize) -> PageAt
-    requires { (Charted s.now charts.now) × (Small r) × (from (ranged r) ≤ g) × (g < upto (ranged r)) }
+fn in_range<F: FnOnce(u32, u32) -> Option<usize>>(
+    s: &Store,
+    r: PageRange,
+    g: usize,
+    frame_of: F,
+) -> Option<Located>
+    requires page { (Small r) × (from (ranged r) ≤ g) × (g < upto (ranged r)) }
+    requires callable { F.IsAlwaysCallable frame_of }
+    requires finds { Finds s.now (F.post frame_of) }
     ensures { result ≡ in_range s.now r g }
 {
-    let backing = number(r.backing);
-    match frame_of(s, charts, backing, look::index_in(r, g)) {
-        Frame::Nothing => PageAt::Absent,
-        Frame::At(frame) => PageAt::Present(Located { backing, frame }),
-    }
+    let backing = r.backing.number();
+    let frame = frame_of(backing, look::index_in(r, g))?;
+    Some(Located { backing, frame })
 }
 
 // Whether the range in this slot covers page g of the line.
 fn covers(s: &Store, slot: usize, g: usize) -> bool
     requires { Table s.now.ranges s.now.count }
-    ensures { result ≡ true → At slot ≡ covering_at g (ranged_of (used s.now)) }
+    ensures { result ≡ true → Some slot ≡ covering_at g (ranged_of (used s.now)) }
 {
     slot < s.count && s.ranges[slot].first() <= g && g < s.ranges[slot].end()
 }
 
 // The slot of the range that covers page g of the line: the slot `hint`, or the one behind it, or what halving finds.
-fn slot_near(s: &Store, g: usize, hint: usize) -> Found
+fn slot_near(s: &Store, g: usize, hint: usize) -> Option<usize>
     requires { (Table s.now.ranges s.now.count) × (g < 1000000000000000000) }
     ensures { result ≡ covering_at g (ranged_of (used s.now)) }
 {
     if covers(s, hint, g) {
-        return Found::At(hint);
+        return Some(hint);
     }
     if hint < 512 && covers(s, hint + 1, g) {
-        return Found::At(hint + 1);
+        return Some(hint + 1);
     }
     range_table::covering(s, g)
 }
@@ -95,84 +86,145 @@ pub struct Near<T> {
     pub found: T,
 }
 
-// Page g of the line, looked for from the slot `hint` on.
-pub fn locate_near(s: &Store, charts: &Charts, g: usize, hint: usize) -> Near<PageAt>
-    requires { (Charted s.now charts.now) × (g < 1000000000000000000) }
-    ensures { result.found ≡ located s.now g }
+// Page g of the line, looked for from the slot `hint` on, where `frame_of` finds the frame that stands at a backing and index.
+pub fn locate_by<F: FnOnce(u32, u32) -> Option<usize>>(
+    s: &Store,
+    g: usize,
+    hint: usize,
+    frame_of: F,
+) -> Near<Option<Located>>
+    requires table { (Table s.now.ranges s.now.count) × (g < 1000000000000000000) }
+    requires callable { F.IsAlwaysCallable frame_of }
+    requires finds { Finds s.now (F.post frame_of) }
+    ensures found { result.found ≡ located s.now g }
+    ensures inside { IfSome result.found (λ l. l.frame < s.now.frames) }
 {
     match slot_near(s, g, hint) {
-        Found::Missing => Near {
+        None => Near {
             slot: hint,
-            found: PageAt::Absent,
+            found: None,
         },
-        Found::At(slot) => Near {
+        Some(slot) => Near {
             slot,
-            found: in_range(s, charts, s.ranges[slot], g),
+            found: in_range(s, s.ranges[slot], g, frame_of),
         },
     }
 }
 
-// Page g of the line.
-pub fn locate(s: &Store, charts: &Charts, g: usize) -> PageAt
-    requires { (Charted s.now charts.now) × (g < 1000000000000000000) }
-    ensures { result ≡ located s.now g }
-{
-    locate_near(s, charts, g, 0).found
+// The pages of a store, looked up by its charts.
+#[derive(Clone, Copy)]
+pub struct Pages<'a> {
+    pub store: &'a Store,
+    pub charts: &'a Charts,
+    pub ghost charted: { Charted store.now charts.now } by { charted_prop store.now charts.now },
 }
 
-// The state of a page that was found.
-fn state_at(s: &Store, charts: &Charts, page: PageAt) -> State
-    requires { (RangeChains s.now.ranges s.now.count charts.now.ranges) × (s.now.count ≤ 512) }
-    ensures { result ≡ seen s.now page }
-{
-    match page {
-        PageAt::Absent => State::Absent,
-        PageAt::Present(located) => sharing(s, charts, located.backing),
+impl Pages<'_> {
+    // Page g of the line, looked for from the slot `hint` on.
+    pub fn locate_near(&self, g: usize, hint: usize) -> Near<Option<Located>>
+        requires { g < 1000000000000000000 }
+        ensures found { result.found ≡ located self.now.store.now g }
+        ensures inside { IfSome result.found (λ l. l.frame < self.now.store.now.frames) }
+    {
+        locate_by(
+            self.store,
+            g,
+            hint,
+            |backing, index| frame_of(self.store, self.charts, backing, index),
+        )
+    }
+
+    // Page g of the line.
+    pub fn locate(&self, g: usize) -> Option<Located>
+        requires { g < 1000000000000000000 }
+        ensures found { result ≡ located self.now.store.now g }
+        ensures inside { IfSome result (λ l. l.frame < self.now.store.now.frames) }
+    {
+        self.locate_near(g, 0).found
     }
 }
 
-// The state of page g of the line, looked for from the slot `hint` on.
-pub fn state_near(s: &Store, charts: &Charts, g: usize, hint: usize) -> Near<State>
-    requires { (Charted s.now charts.now) × (g < 1000000000000000000) × (RangeChains s.now.ranges s.now.count charts.now.ranges) }
-    ensures { result.found ≡ seen s.now (located s.now g) }
-{
-    let near = locate_near(s, charts, g, hint);
-    Near {
-        slot: near.slot,
-        found: state_at(s, charts, near.found),
+// The same, with the ranges that hold each backing, so that the state of each page is known: absent, private or shared.
+#[derive(Clone, Copy)]
+pub struct States<'a> {
+    pub pages: Pages<'a>,
+    pub ghost held: { RangeChains pages.store.now.ranges pages.store.now.count pages.charts.now.ranges },
+}
+
+impl States<'_> {
+    // "A backing held by two or more ranges is shared.": a walk along the chain of the backing, until two are met.
+    fn sharing(&self, backing: u32) -> State
+        ensures { result ≡ shared_in self.now.pages.store.now backing }
+    {
+        let Pages { store, charts } = self.pages;
+        let mut met = false;
+        let mut next = charts.ranges.heads[chain_by(backing)] as usize;
+        // by hand: a chain is of indices, since memory is fixed
+        while 0 < next {
+            let slot = next - 1;
+            if store.ranges[slot].backing.number() == backing {
+                if met {
+                    return State::Shared;
+                }
+                met = true;
+            }
+            next = charts.ranges.next[slot] as usize;
+        }
+        State::Private
     }
-}
 
-// The state of page g of the line.
-pub fn state_of(s: &Store, charts: &Charts, g: usize) -> State
-    requires { (Charted s.now charts.now) × (g < 1000000000000000000) × (RangeChains s.now.ranges s.now.count charts.now.ranges) }
-    ensures { result ≡ seen s.now (located s.now g) }
-{
-    state_near(s, charts, g, 0).found
-}
-
-// The frame of a page that was found, if it is present and private.
-fn private_at(s: &Store, charts: &Charts, page: PageAt) -> Frame
-    requires { (RangeChains s.now.ranges s.now.count charts.now.ranges) × (s.now.count ≤ 512) }
-    ensures { result ≡ private_in s.now page }
-{
-    match page {
-        PageAt::Absent => Frame::Nothing,
-        PageAt::Present(located) => match sharing(s, charts, located.backing) {
-            State::Private => Frame::At(located.frame),
-            State::Absent | State::Shared => Frame::Nothing,
-        },
+    // The state of a page that was found.
+    fn state_at(&self, page: Option<Located>) -> State
+        ensures { result ≡ seen self.now.pages.store.now page }
+    {
+        match page {
+            None => State::Absent,
+            Some(located) => self.sharing(located.backing),
+        }
     }
-}
 
-// The frame of page g of the line, if it is present and private, looked for from the slot `hint` on.
-pub fn private_near(s: &Store, charts: &Charts, g: usize, hint: usize) -> Near<Frame>
-    requires { (Charted s.now charts.now) × (g < 1000000000000000000) × (RangeChains s.now.ranges s.now.count charts.now.ranges) }
-    ensures { result.found ≡ private_in s.now (located s.now g) }
-{
-    let near = locate_near(s, charts, g, hint);
-    Near {
-        slot: near.slot,
-        found: private_at(s, charts, near.found),
+    // The state of page g of the line, looked for from the slot `hint` on. By hand, as `private_near` is: of a closure that has `self` the check finds no contract.
+    pub fn near(&self, g: usize, hint: usize) -> Near<State>
+        requires { g < 1000000000000000000 }
+        ensures { result.found ≡ seen self.now.pages.store.now (located self.now.pages.store.now g) }
+    {
+        let Near { slot, found } = self.pages.locate_near(g, hint);
+        Near {
+            slot,
+            found: self.state_at(found),
+        }
+    }
+
+    // The state of page g of the line.
+    pub fn of(&self, g: usize) -> State
+        requires { g < 1000000000000000000 }
+        ensures { result ≡ seen self.now.pages.store.now (located self.now.pages.store.now g) }
+    {
+        self.near(g, 0).found
+    }
+
+    // The frame of a page that was found, if it is present and private.
+    fn private_at(&self, page: Option<Located>) -> Option<usize>
+        ensures found { result ≡ private_in self.now.pages.store.now page }
+        ensures same { IfSome result (λ f. IfSome page (λ l. f ≡ l.frame)) }
+    {
+        let located = page?;
+        match self.sharing(located.backing) {
+            State::Private => Some(located.frame),
+            State::Absent | State::Shared => None,
+        }
+    }
+
+    // The frame of page g of the line, if it is present and private, looked for from the slot `hint` on.
+    pub fn private_near(&self, g: usize, hint: usize) -> Near<Option<usize>>
+        requires { g < 1000000000000000000 }
+        ensures found { result.found ≡ private_in self.now.pages.store.now (located self.now.pages.store.now g) }
+        ensures inside { IfSome result.found (λ f. f < self.now.pages.store.now.frames) }
+    {
+        let Near { slot, found } = self.pages.locate_near(g, hint);
+        Near {
+            slot,
+            found: self.private_at(found),
+        }
     }
 }

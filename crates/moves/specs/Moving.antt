@@ -1,12 +1,10 @@
 -- BYTES OF A SOURCE MOVED INTO A FRAME that has none of its pages: the part in its first page, then the rest, which lies in the next page.
-use Rattle.std.specs.Prelude.{◌≡◌, refl, List, ◌++◌, ℕ, suc, ◌+◌, ◌-◌, ◌*◌, ◌/◌, ◌%◌, ◌≤◌, ◌<◌, drop}
+use Rattle.std.specs.Prelude.{◌≡◌, refl, List, ◌++◌, ℕ, suc, ◌+◌, ◌-◌, ◌*◌, ◌/◌, ◌%◌, ◌≤◌, ◌<◌, drop, Option, Some, None}
 use Rattle.std.proofs.Math.Path.{ap}
 use Rattle.std.proofs.Common.{ap₂, sym, ◌∙◌, add-one, arith, length-drop, length-take, drop_at, length-take-le, take_at}
 use Rattle.std.proofs.Math.ListN.{length, take}
 use Rattle.std.proofs.Math.Seq.{paste}
 use Rattle.store.specs.declared.Store.{Store}
-use Rattle.look.specs.declared.PageAt.{PageAt}
-use Rattle.look.specs.declared.PageAt.TheVariants.{Absent, Present}
 use Rattle.look.specs.declared.Located.{Located}
 use Rattle.lists.specs.Test.{by-lt}
 use Rattle.lists.specs.Part.{paste_same, paste_more}
@@ -26,7 +24,7 @@ use Rattle.reads.specs.Reading.{page_bytes, page_length, reading_next}
 
 -- no page of object o is in frame f
 abbrev pub Away : Store → ℕ → ℕ → Type 0
-Away s o f = (q : ℕ) → q < 262144 → (l : Located) → located s (line o q) ≡ Present l → l.frame ≡ f → ⊥
+Away s o f = (q : ℕ) → q < 262144 → (l : Located) → located s (line o q) ≡ Some l → l.frame ≡ f → ⊥
 
 module _ (s : Store) (T : Table s.ranges s.count) (r : s.frames ≤ length s.places) (x : List ℕ) (pool : length x ≡ s.frames * 4096) (o : ℕ) where
   -- ---- the first page's part of m bytes from offset y
@@ -81,9 +79,9 @@ module _ (s : Store) (T : Table s.ranges s.count) (r : s.frames ≤ length s.pla
         e : at ≡ at / 4096 * 4096 + at % 4096
         e = omega arith
 
-        go : (p : PageAt) → located s (line o q) ≡ p → seen 4096 (page_is (paste x at d n) p) ≡ seen 4096 (page_is x p)
-        go Absent h = refl
-        go (Present l) h =
+        go : (p : Option Located) → located s (line o q) ≡ p → seen 4096 (page_is (paste x at d n) p) ≡ seen 4096 (page_is x p)
+        go None h = refl
+        go (Some l) h =
             ap (λ z. frame_at 4096 (paste x z d n) l.frame) e
             ∙ paste_other 4096 x (at / 4096) (at % 4096) d n (omega (arith, pool)) fits long l.frame (A q hq l h)
 

@@ -1,13 +1,13 @@
 #![tactic(auto)]
 
-ghost use Rattle.std.specs.Prelude.{◌≡◌, ◌+◌, ◌-◌, ◌*◌, ◌/◌, ◌%◌, ◌≤◌, ◌<◌, max, min};
+ghost use Rattle.std.specs.Prelude.{◌≡◌, ◌+◌, ◌-◌, ◌*◌, ◌/◌, ◌%◌, ◌≤◌, min};
 
 // A page of an object, counted from 0: "a number of its own, never mixed with a byte offset or a frame number".
-#[derive(Clone, Copy)]
+#[derive(Clone, Copy, PartialEq, Eq)]
 pub struct PageNumber(pub usize);
 
 // A span of bytes: those before its first page edge, its whole pages, those after the last edge.
-#[derive(Clone, Copy)]
+#[derive(Clone, Copy, PartialEq, Eq)]
 pub struct Span {
     pub head: usize,
     pub whole: usize,
@@ -48,11 +48,7 @@ impl PageNumber {
     pub fn in_page(offset: usize, n: usize) -> usize
         ensures { result ≡ min n (4096 - offset % 4096) }
     {
-        let room = PageNumber::PAGE_SIZE - offset % PageNumber::PAGE_SIZE;
-        if n < room {
-            return n;
-        }
-        room
+        n.min(PageNumber::PAGE_SIZE - offset % PageNumber::PAGE_SIZE)
     }
 
     // The span of the n bytes from a byte offset on; one inside a page with both ends off the page's edges is all head.
@@ -71,10 +67,7 @@ impl PageNumber {
     pub fn to_edge(offset: usize, n: usize) -> usize
         ensures { result ≡ min n ((4096 - offset % 4096) % 4096) }
     {
-        if offset % PageNumber::PAGE_SIZE == 0 {
-            return 0;
-        }
-        PageNumber::in_page(offset, n)
+        n.min((PageNumber::PAGE_SIZE - offset % PageNumber::PAGE_SIZE) % PageNumber::PAGE_SIZE)
     }
 
     // The byte offset at which a page begins.
@@ -100,23 +93,4 @@ impl PageNumber {
     {
         self.0 - earlier.0
     }
-}
-
-// The larger of two numbers, and the smaller.
-pub fn larger(a: usize, b: usize) -> usize
-    ensures { result ≡ max a b }
-{
-    if a < b {
-        return b;
-    }
-    a
-}
-
-pub fn smaller(a: usize, b: usize) -> usize
-    ensures { result ≡ min a b }
-{
-    if a < b {
-        return a;
-    }
-    b
 }

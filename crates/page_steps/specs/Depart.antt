@@ -1,14 +1,11 @@
 -- What leaves with a page step, in the order in which the code finds it.
 use Rattle.std.specs.Prelude.{◌≡◌, Option, Some, None, true, false, ◌&&◌, List, [], ◌∷◌, ℕ, zero, suc, replicate, ◌+◌, ◌-◌, ◌*◌, ◌/◌, ◌%◌, ◌<◌, ◌^◌, eqb, get_or, length, set, take}
 use Rattle.std.proofs.Common.{ap, sym, ◌∙◌, arith, refl, length-take, not-suc-le-zero, get_or-set_other, length-set}
-use Rattle.std.proofs.Math.Option.{Option as Maybe, none, some}
 use Rattle.std.specs.Int.Bits.{bit_and}
 use Rattle.frames.specs.Free.{TakenOut, cleared, free_bit, free_count}
 use Rattle.frames.specs.Bits.{cleared_other, cleared_same, one_shifted}
 use Rattle.std.specs.Int.Count.{ones}
 use Rattle.std.proofs.Math.Seq.{get_or-set_same}
-use Rattle.frames.specs.declared.Frame.{Frame}
-use Rattle.frames.specs.declared.Frame.TheVariants.{At, Nothing}
 use Rattle.places.specs.declared.Place.{Place}
 use Rattle.store.specs.declared.Store.{Store}
 use Rattle.lists.specs.Test.{pick, by-eq}
@@ -21,17 +18,17 @@ use Rattle.places.specs.Found.{frame_found}
 use Rattle.store.specs.Abs.{used}
 use Rattle.store.specs.Edits.{slot}
 use Rattle.frames.specs.Count.{taken_out}
-use Rattle.sheet.specs.Sheet.{with_free, with_place, with_places, with_word}
+use Rattle.store.specs.With.{with_free, with_place, with_places, with_word}
 
 -- where a page was, as a slot of the book
-abbrev pub old_slot : Option Place → Maybe Slot
-old_slot None = none
-old_slot (Some p) = some (slot p.backing p.index)
+abbrev pub old_slot : Option Place → Option Slot
+old_slot None = None
+old_slot (Some p) = Some (slot p.backing p.index)
 
 -- the places once a frame that was found stands nowhere
-abbrev pub without : Frame → List Place → List Place
-without Nothing ps = ps
-without (At k) ps = set ps k nowhere
+abbrev pub without : Option ℕ → List Place → List Place
+without None ps = ps
+without (Some k) ps = set ps k nowhere
 
 abbrev pub gone_at : Store → Place → List Place
 gone_at s p = without (frame_at p.backing p.index 0 (take s.frames s.places)) s.places
@@ -49,15 +46,15 @@ pub record Taken (s : Store) (f : ℕ) (t : Store) : Type 0 where
 
 -- ---- a frame released, as the code finds it
 module _ (s : Store) (p : Place) where
-  pub found_below : (k : ℕ) → frame_at p.backing p.index 0 (take s.frames s.places) ≡ At k → k < s.frames
+  pub found_below : (k : ℕ) → frame_at p.backing p.index 0 (take s.frames s.places) ≡ Some k → k < s.frames
   found_below k e =
       let F = frame_found p.backing p.index 0 (take s.frames s.places) k e in
       omega (arith, F.number, F.inside, length-take s.frames s.places)
 
-  pub gone_none : frame_at p.backing p.index 0 (take s.frames s.places) ≡ Nothing → s ≡ with_places (gone_at s p) s
+  pub gone_none : frame_at p.backing p.index 0 (take s.frames s.places) ≡ None → s ≡ with_places (gone_at s p) s
   gone_none e = rw e
 
-  pub gone_one : (k : ℕ) (t : Store) → frame_at p.backing p.index 0 (take s.frames s.places) ≡ At k → t ≡ with_place k nowhere s → t ≡ with_places (gone_at s p) s
+  pub gone_one : (k : ℕ) (t : Store) → frame_at p.backing p.index 0 (take s.frames s.places) ≡ Some k → t ≡ with_place k nowhere s → t ≡ with_places (gone_at s p) s
   gone_one k t e h = rw e h
 
 -- ---- what departs, by what the code asks

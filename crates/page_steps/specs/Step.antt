@@ -2,8 +2,6 @@
 use Rattle.std.specs.Prelude.{◌≡◌, refl, Option, Some, None, Bool, false, ◌&&◌, ◌⊎◌, List, ℕ, ◌+◌, ◌≤◌, ◌<◌, eqb, length, set, take}
 use Rattle.std.proofs.Common.{ap, sym, subst, ◌∙◌, inl, inr, arith, eq-eqb, eqb-true}
 use Rattle.std.proofs.lemmas.Bool.{false≢true}
-use Rattle.frames.specs.declared.Frame.{Frame}
-use Rattle.frames.specs.declared.Frame.TheVariants.{At, Nothing}
 use Rattle.table.specs.declared.PageRange.{PageRange}
 use Rattle.places.specs.declared.Place.{Place}
 use Rattle.edit.specs.declared.RangeTable.{RangeTable}
@@ -18,7 +16,7 @@ use Rattle.frames.specs.Free.{TakenOut}
 use Rattle.places.specs.Places.{frame_at, place}
 use Rattle.store.specs.Abs.{used}
 use Rattle.store.specs.Ranges.{put_ranges}
-use Rattle.sheet.specs.Sheet.{with_free, with_place, with_places}
+use Rattle.store.specs.With.{with_free, with_place, with_places}
 use Rattle.range_table.specs.Edit.{PutIs, with_table}
 use Rattle.pages.specs.Any.{zeros}
 use Rattle.pages.specs.Inside.{Inside}
@@ -42,11 +40,11 @@ module _ (s : Store) (u : RangeTable) (g b i : ℕ) where
       (λ n. rw (q, n) (stays p.backing p.index e (λ x y. other q x y) n))
       (λ n. rw (q, n) (gone (frame_at p.backing p.index 0 (take s.frames s.places)) refl (inr n))))
     where
-      gone : (k : Frame) → frame_at p.backing p.index 0 (take s.frames s.places) ≡ k
+      gone : (k : Option ℕ) → frame_at p.backing p.index 0 (take s.frames s.places) ≡ k
           → ((p.backing ≡ b) × (p.index ≡ i)) ⊎ (named p.backing p.index (ranges_of (take u.count u.ranges)) ≡ false)
           → Left s g (ranges_of (take u.count u.ranges)) b i (gone_at s p)
-      gone Nothing f w = rw f (absent p.backing p.index e f)
-      gone (At k) f w = rw f (goes p.backing p.index k e w f)
+      gone None f w = rw f (absent p.backing p.index e f)
+      gone (Some k) f w = rw f (goes p.backing p.index k e w f)
 
       other : (eqb p.backing b && eqb p.index i) ≡ false → p.backing ≡ b → p.index ≡ i → ⊥
       other q x y = false≢true (sym q ∙ rw (eq-eqb p.backing b x, eq-eqb p.index i y))

@@ -18,35 +18,19 @@ ghost use Rattle.pages.specs.Present.{Present, Room};
 mod settling;
 mod spots;
 
-use frames::Frame;
-use look::{Located, PageAt, index_in};
+use look::{Located, index_in};
 use page::PageNumber;
 pub use settling::{frame_at, next_frame, release, settle, take_frame};
 use spots::{is_shared, own_spot, spot_of};
 use store::Store;
-use table::{Found, PageRange, line_of, number};
+use table::{PageRange, line_of};
 
-// Page g of the line, which range r covers.
-fn in_range(s: &Store, r: PageRange, g: usize) -> PageAt
-    requires { (Small r) × (from (ranged r) ≤ g) × (g < upto (ranged r)) × (s.now.frames ≤ 1024) }
-    ensures { result ≡ in_range s.now r g }
-{
-    let backing = number(r.backing);
-    match frame_at(s, backing, index_in(r, g)) {
-        Frame::Nothing => PageAt::Absent,
-        Frame::At(frame) => PageAt::Present(Located { backing, frame }),
-    }
-}
-
-// Page g of the line.
-fn locate(s: &Store, g: usize) -> PageAt
+// Page g of the line, its frame found among all: in a call that changes the store no charts stand.
+fn locate(s: &Store, g: usize) -> Option<Located>
     requires { (Table s.now.ranges s.now.count) × (s.now.frames ≤ 1024) × (g < 1000000000000000000) }
     ensures { result ≡ located s.now g }
 {
-    match range_table::covering(s, g) {
-        Found::Missing => PageAt::Absent,
-        Found::At(k) => in_range(s, s.ranges[k], g),
-    }
+    lookup::locate_by(s, g, 0, |backing, index| frame_at(s, backing, index)).found
 }
 
 // "Adding to a present page replaces it by a zeroed frame"; a page of a shared range is cut out; an uncovered one joins a range or starts one. The answer is the frame.
@@ -55,7 +39,7 @@ pub fn add_page(s: &mut Store, pool: &mut [u8], object: u32, page: PageNumber) -
     ensures { (Stepped s.old pool.old object page.0 (add_page object page.0 (work_of s.old pool.old)) s.new pool.new result) × (result ≡ next (work_of s.old pool.old)) }
 {
     let q = spot_of(s, object, page);
-    let Frame::At(f) = next_frame(s) else {
+    let Some(f) = next_frame(s) else {
         unreachable!()
     };
     settle(s, object, page, q, f);
@@ -70,7 +54,7 @@ fn copy_page(s: &mut Store, pool: &mut [u8], object: u32, page: PageNumber, from
     ensures { Stepped s.old pool.old object page.0 (writable object page.0 (work_of s.old pool.old)) s.new pool.new result }
 {
     let q = own_spot(s, object, page);
-    let Frame::At(f) = next_frame(s) else {
+    let Some(f) = next_frame(s) else {
         unreachable!()
     };
     settle(s, object, page, q, f);
@@ -96,8 +80,8 @@ pub fn make_writable(s: &mut Store, pool: &mut [u8], object: u32, page: PageNumb
     ensures { Stepped s.old pool.old object page.0 (writable object page.0 (work_of s.old pool.old)) s.new pool.new result }
 {
     match locate(s, line_of(object, page)) {
-        PageAt::Absent => add_page(s, pool, object, page),
-        PageAt::Present(l) => private_page(s, pool, object, page, l),
+        None => add_page(s, pool, object, page),
+        Some(l) => private_page(s, pool, object, page, l),
     }
 }
 
@@ -109,10 +93,10 @@ pub fn write_page(s: &mut Store, pool: &mut [u8], object: u32, offset: usize, by
 {
     let f = make_writable(s, pool, object, PageNumber::from_offset(offset));
     let at = f * PageNumber::PAGE_SIZE + PageNumber::place(offset);
-    pool::copy_in(pool, at, bytes, 0, bytes.len());
+    pool::copy(pool, at, bytes, 0, bytes.len());
 }
 
-// n bytes from offset on, all in one page that is present, cleared.
+// n bytes from offset on, all in one page that is present, cleared. By hand: they are a part that a caller cuts off a span; an `Extent` would be made for the call alone.
 fn clear_present(s: &mut Store, pool: &mut [u8], object: u32, offset: usize, n: usize)
     requires { (Inside s.old pool.old) × (offset < 1073741824) × (Room s.old pool.old object (offset / 4096)) × (offset % 4096 + n ≤ 4096) }
     ensures { Wrote s.old pool.old object (offset / 4096) (over (offset % 4096) (replicate n 0)) s.new pool.new }
@@ -122,7 +106,8 @@ fn clear_present(s: &mut Store, pool: &mut [u8], object: u32, offset: usize, n: 
     pool::fill(pool, at, n, 0);
 }
 
-// "clears bytes in present partial pages": n bytes from offset on, all in one page. A shared page gets a private copy; an absent one stays.
+// "clears bytes in present partial pages": n bytes from offset on, all in one page. A shared page gets a private copy; an absent one stays. By
+// hand: the bytes are a part that a caller cuts off a span.
 pub fn clear_page(s: &mut Store, pool: &mut [u8], object: u32, offset: usize, n: usize)
     requires { (Inside s.old pool.old) × (offset + n ≤ 1073741824) × (offset % 4096 + n ≤ 4096) × (0 < n → Spared s.old pool.old object (offset / 4096)) }
     ensures { Cleared s.old pool.old object offset n s.new pool.new }
@@ -131,7 +116,7 @@ pub fn clear_page(s: &mut Store, pool: &mut [u8], object: u32, offset: usize, n:
         return;
     }
     let page = PageNumber::from_offset(offset);
-    if let PageAt::Present(_) = locate(s, line_of(object, page)) {
+    if let Some(_) = locate(s, line_of(object, page)) {
         clear_present(s, pool, object, offset, n);
     }
 }

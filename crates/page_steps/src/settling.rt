@@ -6,47 +6,43 @@ ghost use Rattle.frames.specs.Free.{highest_below};
 ghost use Rattle.table.specs.Table.{ranges_of, Table};
 ghost use Rattle.places.specs.Places.{frame_at};
 ghost use Rattle.store.specs.Abs.{used};
-ghost use Rattle.sheet.specs.Sheet.{with_places};
+ghost use Rattle.store.specs.With.{with_places};
 ghost use Rattle.pages.specs.Any.{zeros};
 ghost use Rattle.pages.specs.Inside.{Inside};
 ghost use Rattle.pages.specs.Leaving.{Gentle};
 ghost use Rattle.pages.specs.Settling.{Lodged, Placed};
 ghost use Rattle.page_steps.specs.Depart.{departed, gone_at, old_slot, Taken};
 
-use frames::{Frame, top_bit};
+use frames::top_bit;
 use look::index_in;
 use page::PageNumber;
 use pages::Spot;
-use places::{Place, stands_at};
+use places::Place;
 use range_table::{covering, has_window, put_range};
 use store::Store;
-use table::{Found, line_of, number};
+use table::line_of;
 
 // The first frame that stands at this backing and index.
-pub fn frame_at(s: &Store, backing: u32, index: u32) -> Frame
+pub fn frame_at(s: &Store, backing: u32, index: u32) -> Option<usize>
     requires { s.now.frames ≤ 1024 }
     ensures { result ≡ frame_at backing index 0 (take s.now.frames s.now.places) }
 {
-    match s.places[..s.frames]
+    s.places[..s.frames]
         .iter()
-        .position(|p| stands_at(*p, backing, index))
-    {
-        Some(f) => Frame::At(f),
-        None => Frame::Nothing,
-    }
+        .position(|p| p.stands_at(backing, index))
 }
 
 // The frame taken next, if one is free: "The frame handed out is the highest-numbered free one".
-pub fn next_frame(s: &Store) -> Frame
+pub fn next_frame(s: &Store) -> Option<usize>
     ensures { result ≡ highest_below s.now.free 1024 }
 {
     for i in (0..16).rev() {
         let w = s.free[i];
         if 0 < w {
-            return Frame::At(i * 64 + top_bit(w));
+            return Some(i * 64 + top_bit(w));
         }
     }
-    Frame::Nothing
+    None
 }
 
 // The place of a page in the page vectors before a step, present or not; none where no range covers it.
@@ -54,16 +50,12 @@ fn old_place(s: &Store, g: usize) -> Option<Place>
     requires { (Table s.now.ranges s.now.count) × (g < 1000000000000000000) }
     ensures { slot_at g (ranges_of (used s.now)) ≡ old_slot result }
 {
-    match covering(s, g) {
-        Found::Missing => None,
-        Found::At(k) => {
-            let r = s.ranges[k];
-            Some(Place {
-                backing: number(r.backing),
-                index: index_in(r, g),
-            })
-        }
-    }
+    let k = covering(s, g)?;
+    let r = s.ranges[k];
+    Some(Place {
+        backing: r.backing.number(),
+        index: index_in(r, g),
+    })
 }
 
 // The frame at a place, if there is one, stands nowhere.
@@ -71,11 +63,8 @@ pub fn release(s: &mut Store, p: Place)
     requires { s.old.frames ≤ 1024 }
     ensures { s.new ≡ with_places (gone_at s.old p) s.old }
 {
-    if let Frame::At(f) = frame_at(s, p.backing, p.index) {
-        s.places[f] = Place {
-            backing: 0,
-            index: 0,
-        };
+    if let Some(f) = frame_at(s, p.backing, p.index) {
+        s.places[f] = Place::NOWHERE;
     }
 }
 
@@ -85,8 +74,7 @@ fn depart(s: &mut Store, old: Option<Place>, place: Place)
     ensures { s.new ≡ with_places (departed s.old place.backing place.index old) s.old }
 {
     if let Some(p) = old {
-        let replaced = p.backing == place.backing && p.index == place.index;
-        if replaced || !has_window(s, p.backing, p.index) {
+        if p == place || !has_window(s, p.backing, p.index) {
             release(s, p);
         }
     }
@@ -108,7 +96,7 @@ pub fn settle(s: &mut Store, object: u32, page: PageNumber, q: Spot, f: usize)
 {
     let old = old_place(s, line_of(object, page));
     let place = Place {
-        backing: number(q.range.backing),
+        backing: q.range.backing.number(),
         index: q.index,
     };
     put_range(s, q.range);

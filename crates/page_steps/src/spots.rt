@@ -12,7 +12,7 @@ use page::PageNumber;
 use pages::Spot;
 use range_table::{fresh_number, holder_count, starts_before};
 use store::Store;
-use table::{BackingPages, PageRange, line_of, number};
+use table::{BackingPages, PageRange, line_of};
 
 // A range of its own, with a new backing.
 pub fn own_spot(s: &Store, object: u32, page: PageNumber) -> Spot
@@ -44,7 +44,7 @@ fn covered_spot(s: &Store, object: u32, page: PageNumber, r: PageRange) -> Spot
     requires { (s.now.count ≤ 512) × (Small r) × (from (ranged r) ≤ line object page.0) × (line object page.0 < upto (ranged r)) × (page.0 < 262144) }
     ensures { result ≡ spot_in s.now object page.0 r }
 {
-    if is_shared(s, number(r.backing)) {
+    if is_shared(s, r.backing.number()) {
         return own_spot(s, object, page);
     }
     Spot {
@@ -62,7 +62,7 @@ fn can_join(s: &Store, object: u32, page: PageNumber, r: PageRange) -> bool
     let gap = end - r.end();
     let long = end - r.first();
     r.object == object
-        && holder_count(s, number(r.backing)) == 1
+        && holder_count(s, r.backing.number()) == 1
         && gap <= 16
         && r.offset as usize + long <= 1048576
 }
@@ -76,7 +76,7 @@ fn longer_spot(r: PageRange, g: usize) -> Spot
     Spot {
         range: PageRange {
             length: k + 1,
-            backing: BackingPages::Many(number(r.backing)),
+            backing: BackingPages::Many(r.backing.number()),
             ..r
         },
         index: r.offset + k,

@@ -1,7 +1,6 @@
 -- WHICH BYTES OF THE POOL A CALL HAS CHANGED, page by page along the line: no frame's but those that the pages done have. So the pool left is the book's.
-use Rattle.std.specs.Prelude.{◌≡◌, refl, ◌⊎◌, List, ℕ, suc, ◌*◌, ◌≤◌, ◌<◌, length, get_or}
+use Rattle.std.specs.Prelude.{◌≡◌, refl, ◌⊎◌, List, ℕ, suc, ◌*◌, ◌≤◌, ◌<◌, length, get_or, Some}
 use Rattle.std.proofs.Common.{ap, ap₂, sym, ◌∙◌, inl, inr, ⊎_elim, arith}
-use Rattle.std.proofs.Math.Option.{some}
 use Rattle.store.specs.declared.Store.{Store}
 use Rattle.lists.specs.Test.{by-eq}
 use Rattle.ranges.specs.Range.{Slot, line, slot_at}
@@ -29,7 +28,7 @@ pub record Among (a e : ℕ) (s : Store) (f : ℕ) : Type 0 where
   pub low : a ≤ page
   pub high : page < e
   pub held : 0 < (place_at s.places f).backing
-  pub slot : slot_at page (ranges_of (used s)) ≡ some (spot s f)
+  pub slot : slot_at page (ranges_of (used s)) ≡ Some (spot s f)
 
 -- each frame's bytes are those of the pool x₀, or the frame has a page of the line from a up to e
 unfoldable pub Changed : ℕ → ℕ → Store → List ℕ → List ℕ → Type 0
@@ -65,12 +64,12 @@ unfolding work_of
 cell_standing s x f b i z e = standing 4096 s.frames s.places x f b i z e
 
 -- a frame still has its page, where the page is at its slot and the frame's cell is there
-among_as : (a e e' : ℕ) (s t : Store) (y z : List ℕ) (f : ℕ) (A : Among a e s f) → A.page < e' → slot_at A.page (work_of t y).ranges ≡ some (spot s f)
+among_as : (a e e' : ℕ) (s t : Store) (y z : List ℕ) (f : ℕ) (A : Among a e s f) → A.page < e' → slot_at A.page (work_of t y).ranges ≡ Some (spot s f)
     → get_or (work_of t y).cells f free ≡ holds (spot s f).inside (spot s f).index z → Among a e' t f
 unfolding work_of
 among_as a e e' s t y z f A h k c =
     let T = cell_standing t y f (spot s f).inside (spot s f).index z c in
-    record { page = A.page; low = A.low; high = h; held = omega (arith, T.held); slot = k ∙ ap₂ (λ b i. some (slot b i)) (sym T.backing) (sym T.index) }
+    record { page = A.page; low = A.low; high = h; held = omega (arith, T.held); slot = k ∙ ap₂ (λ b i. Some (slot b i)) (sym T.backing) (sym T.index) }
 
 -- a frame that has a page before it still has that page
 among_stays : (a o p : ℕ) (g : List ℕ → List ℕ) (s t : Store) (x y : List ℕ) (h : ℕ) → Inside s x → p < 262144 → Stepped s x o p (write_page o p g (work_of s x)) t y h

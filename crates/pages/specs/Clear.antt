@@ -1,7 +1,6 @@
 -- BYTES OF ONE PAGE CLEARED: those of a present page are zeros afterwards, an absent page stays absent.
 use Rattle.std.proofs.Math.Path.{◌≡◌}
-use Rattle.std.proofs.Math.Option.{Option, none, some}
-use Rattle.std.specs.Prelude.{List, ℕ, ◌+◌, ◌*◌, ◌/◌, ◌%◌, ◌≤◌, ◌<◌, length, replicate}
+use Rattle.std.specs.Prelude.{List, ℕ, ◌+◌, ◌*◌, ◌/◌, ◌%◌, ◌≤◌, ◌<◌, length, replicate, Option, Some, None}
 use Rattle.std.proofs.Common.{arith, eq-eqb, ne_eqb}
 use Rattle.store.specs.declared.Store.{Store}
 use Rattle.lists.specs.Test.{by-test}
@@ -35,22 +34,22 @@ module _ (s : Store) (x : List ℕ) (o off n : ℕ) (h : 0 < n) where
   p = off / 4096
 
   -- an absent page stays
-  pub clear_absent : page_of (line o p) (work_of s x) ≡ none → Cleared s x o off n s x
+  pub clear_absent : page_of (line o p) (work_of s x) ≡ None → Cleared s x o off n s x
   clear_absent e = stayed cleared_absent
     where
       cleared_absent : clear o off n (work_of s x) ≡ work_of s x
       cleared_absent = unfold clear work_of in rw (ne_eqb n 0 (λ z. omega arith), e)
 
-  module _ (z : List ℕ) (e : page_of (line o p) (work_of s x) ≡ some z) where
+  module _ (z : List ℕ) (e : page_of (line o p) (work_of s x) ≡ Some z) where
     -- what a present page needs to be cleared it needs to be written
     same_need : wants o p (work_of s x) ≡ common (state_of o p (work_of s x))
     unfolding wants state_of page_of
     same_need = go (slot_at (line o p) (work_of s x).ranges) e
       where
-        go : (t : Option Slot) → slot_bytes (work_of s x).cells t ≡ some z
+        go : (t : Option Slot) → slot_bytes (work_of s x).cells t ≡ Some z
             → lacks (state_in (work_of s x) t (slot_bytes (work_of s x).cells t)) ≡ common (state_in (work_of s x) t (slot_bytes (work_of s x).cells t))
-        go none q = absurd (let u : ◌≡◌ {A = ℕ} 0 1 = cc in omega arith)
-        go (some t) q = rw q (by-test (is_shared t.inside (work_of s x).ranges) (λ b. rw b) (λ b. rw b))
+        go None q = absurd (let u : ◌≡◌ {A = ℕ} 0 1 = cc in omega arith)
+        go (Some t) q = rw q (by-test (is_shared t.inside (work_of s x).ranges) (λ b. rw b) (λ b. rw b))
 
     pub clear_room : Spared s x o p → Room s x o p
     clear_room R = record { frames = omega (arith, same_need, R.frames); slots = omega (arith, same_need, R.slots) }

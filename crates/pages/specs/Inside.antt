@@ -1,7 +1,6 @@
 -- A STORE AND A POOL INSIDE A CALL: what every page step relies on and keeps. The free words are the book's spare frames: those free at entry that the
 -- call has not taken yet.
-use Rattle.std.specs.Prelude.{◌≡◌, refl, List, ℕ, ◌*◌, ◌≤◌, ◌<◌, length, drop, get_or}
-use Rattle.std.proofs.Math.Option.{some}
+use Rattle.std.specs.Prelude.{◌≡◌, refl, List, ℕ, ◌*◌, ◌≤◌, ◌<◌, length, drop, get_or, Some}
 use Rattle.std.proofs.Common.{arith, length-take-le, get_or-take}
 use Rattle.table.specs.declared.PageRange.{PageRange}
 use Rattle.store.specs.declared.Store.{Store}
@@ -38,7 +37,7 @@ pub record Inside (s : Store) (x : List ℕ) : Type 0 where
 pub record Has (s : Store) (o p f : ℕ) : Type 0 where
   pub below : f < s.frames
   pub held : 0 < (place_at s.places f).backing
-  pub slot : slot_at (line o p) (ranges_of (used s)) ≡ some (slot (place_at s.places f).backing (place_at s.places f).index)
+  pub slot : slot_at (line o p) (ranges_of (used s)) ≡ Some (slot (place_at s.places f).backing (place_at s.places f).index)
 
 -- A PAGE STEP on page p of object o, from store s and pool x to store t and pool y, in which the page has frame f: the work is the book's w, and no other
 -- frame's bytes change.

@@ -1,15 +1,13 @@
 -- WHAT LEAVES WITH A PAGE STEP. When a page is settled, its own old place alone can fall out of all windows: "entries in no holder's window go at once" is a
 -- look at that one place.
-use Rattle.std.specs.Prelude.{◌≡◌, true, false, ◌⊎◌, eqb, ltb, length, get_or, take, set}
+use Rattle.std.specs.Prelude.{◌≡◌, true, false, ◌⊎◌, eqb, ltb, length, get_or, take, set, Some, None}
 use Rattle.std.proofs.Math.Path.{refl}
 use Rattle.std.proofs.Common.{ap, ap₂, sym, ◌∙◌, ⊎_elim, get_or-take, length-take-le, eqb-true, ltb-true, ltb-false}
 use Rattle.std.proofs.lemmas.Bool.{false≢true}
-use Rattle.std.proofs.Math.Option.{none, some}
 use Rattle.std.proofs.Math.Logic.{inl, inr}
 use mathlib.Core.List.{List, Memᴰ}
 use Prim.Native.Nat.{ℕ, zero, suc, ◌+◌, ◌-◌, ◌≤◌, ◌<◌}
 use native.Mathlib.Omega.{arith}
-use Rattle.frames.specs.declared.Frame.TheVariants.{At, Nothing}
 use Rattle.table.specs.declared.PageRange.{PageRange}
 use Rattle.places.specs.declared.Place.{Place}
 use Rattle.store.specs.declared.Store.{Store}
@@ -43,14 +41,13 @@ use Rattle.pages.specs.Settling.{Lodged}
 use Rattle.pages.specs.Trimming.{put_named, vacated_none, vacated_only, vacated_still, Kept, trimmed_all, trimmed_but}
 
 -- ---- a spot that disturbs no other page
-
 pub record Gentle (s : Store) (o p : ℕ) (q : Spot) : Type 0 where
   -- the other pages of its range that are covered are at their slots
-  pub kept : (h : ℕ) (t : Slot) → from (ranged q.range) ≤ h → h < upto (ranged q.range) → (h ≡ line o p → ⊥) → slot_at h (ranges_of (used s)) ≡ some t
+  pub kept : (h : ℕ) (t : Slot) → from (ranged q.range) ≤ h → h < upto (ranged q.range) → (h ≡ line o p → ⊥) → slot_at h (ranges_of (used s)) ≡ Some t
       → t ≡ slot_in h (range_of q.range)
   -- its index is in a window only if it is the page's own slot
   pub alone : named (number_of q.range.backing) q.index (ranges_of (used s)) ≡ true
-      → slot_at (line o p) (ranges_of (used s)) ≡ some (slot (number_of q.range.backing) q.index)
+      → slot_at (line o p) (ranges_of (used s)) ≡ Some (slot (number_of q.range.backing) q.index)
 
 module _ (s : Store) (x : List ℕ) (I : Inside s x) (o p : ℕ) where
   rising : Rising 0 (ranges_of (used s))
@@ -75,13 +72,13 @@ module _ (s : Store) (x : List ℕ) (I : Inside s x) (o p : ℕ) where
         let l : length (used s) ≡ s.count = length-take-le s.count s.ranges (omega (arith, I.sized.ranges, I.few_ranges)) in
         range_mem (used s) r (rw (get_or-take s.count s.ranges k zero_range inside.0) at (mem_at (used s) k (omega (arith, inside.0))))
 
-    before : previous (line o p) (ranges_of (used s)) ≡ some (range_of r)
+    before : previous (line o p) (ranges_of (used s)) ≡ Some (range_of r)
     before =
         previous_is (range_of zero_range) (line o p) (ranges_of (used s))
         ∙ ap (λ n. last_of (range_of zero_range) n (ranges_of (used s))) (same_starts s.ranges s.count (inside_table s x I) (line o p) ∙ last)
-        ∙ ap some (range_at_lem s.ranges s.count (inside_table s x I) (line o p) k inside.0)
+        ∙ ap Some (range_at_lem s.ranges s.count (inside_table s x I) (line o p) k inside.0)
 
-    there : (h : ℕ) (t : Slot) → from (ranged r) ≤ h → h < upto (ranged r) → slot_at h (ranges_of (used s)) ≡ some t → t ≡ slot_in h (range_of r)
+    there : (h : ℕ) (t : Slot) → from (ranged r) ≤ h → h < upto (ranged r) → slot_at h (ranges_of (used s)) ≡ Some t → t ≡ slot_in h (range_of r)
     there h t l u e = let z = sym e ∙ slot_mem 0 h (range_of r) (ranges_of (used s)) rising mem l u in cc
 
     same_gentle : line o p < upto (ranged r) → Gentle s o p (same_place r (line o p))
@@ -94,7 +91,7 @@ module _ (s : Store) (x : List ℕ) (I : Inside s x) (o p : ℕ) where
     longer_gentle u t = record {
       kept = λ h w l v ne e. by-lt h (upto (ranged r))
           (λ a. there h w l a e)
-          (λ a. absurd (let z : none ≡ some w = sym (previous_gap 0 (line o p) h (range_of r) (ranges_of (used s)) rising before a (omega (arith, inside.1))) ∙ e in
+          (λ a. absurd (let z : None ≡ Some w = sym (previous_gap 0 (line o p) h (range_of r) (ranges_of (used s)) rising before a (omega (arith, inside.1))) ∙ e in
           let y : ◌≡◌ {A = ℕ} 0 1 = cc in omega arith));
       alone = λ e.
           let one : holders (number_of r.backing) (ranges_of (used s)) ≡ 1 = eqb-true _ 1 (and_left _ _ (and_right (eqb r.object o) _ t)) in
@@ -124,11 +121,11 @@ module _ (s : Store) (x : List ℕ) (I : Inside s x) (o p : ℕ) where
 -- WHAT IS LEFT of the places once what leaves with the line's page g has left, by what is found: the page is uncovered; or it was at index j of backing c, and no
 -- frame stood there, or it is not the new place, index i of backing b, and the new table rs' names it, or neither
 pub data Left (s : Store) (g : ℕ) (rs' : List Range) (b i : ℕ) : List Place → Type 0 where
-  uncovered : slot_at g (ranges_of (used s)) ≡ none → Left s g rs' b i s.places
-  absent : (c j : ℕ) → slot_at g (ranges_of (used s)) ≡ some (slot c j) → frame_at c j 0 (take s.frames s.places) ≡ Nothing → Left s g rs' b i s.places
-  stays : (c j : ℕ) → slot_at g (ranges_of (used s)) ≡ some (slot c j) → (c ≡ b → j ≡ i → ⊥) → named c j rs' ≡ true → Left s g rs' b i s.places
-  goes : (c j k : ℕ) → slot_at g (ranges_of (used s)) ≡ some (slot c j) → ((c ≡ b) × (j ≡ i)) ⊎ (named c j rs' ≡ false)
-      → frame_at c j 0 (take s.frames s.places) ≡ At k → Left s g rs' b i (set s.places k nowhere)
+  uncovered : slot_at g (ranges_of (used s)) ≡ None → Left s g rs' b i s.places
+  absent : (c j : ℕ) → slot_at g (ranges_of (used s)) ≡ Some (slot c j) → frame_at c j 0 (take s.frames s.places) ≡ None → Left s g rs' b i s.places
+  stays : (c j : ℕ) → slot_at g (ranges_of (used s)) ≡ Some (slot c j) → (c ≡ b → j ≡ i → ⊥) → named c j rs' ≡ true → Left s g rs' b i s.places
+  goes : (c j k : ℕ) → slot_at g (ranges_of (used s)) ≡ Some (slot c j) → ((c ≡ b) × (j ≡ i)) ⊎ (named c j rs' ≡ false)
+      → frame_at c j 0 (take s.frames s.places) ≡ Some k → Left s g rs' b i (set s.places k nowhere)
 
 module _ (s : Store) (x : List ℕ) (I : Inside s x) where
   -- "Each vector entry lies in the window of some range that holds the vector."
@@ -144,14 +141,14 @@ module _ (s : Store) (x : List ℕ) (I : Inside s x) where
       ))
 
   -- a slot vacated, by the frame that is found there
-  pub vacated_found : (b i f : ℕ) → frame_at b i 0 (take s.frames s.places) ≡ At f → vacated s.frames b i s.places ≡ set s.places f nowhere
+  pub vacated_found : (b i f : ℕ) → frame_at b i 0 (take s.frames s.places) ≡ Some f → vacated s.frames b i s.places ≡ set s.places f nowhere
   unfolding work_of Apart
   vacated_found b i f e =
       let L = located 4096 s.frames s.places x b i (inside_room s x I) f e in
       vacated_only s.frames s.places f b i (inside_room s x I)
       (only_apart 4096 s.frames s.places x f b i I.good.apart L.below L.positive L.backing L.index)
 
-  pub vacated_missing : (b i : ℕ) → frame_at b i 0 (take s.frames s.places) ≡ Nothing → vacated s.frames b i s.places ≡ s.places
+  pub vacated_missing : (b i : ℕ) → frame_at b i 0 (take s.frames s.places) ≡ None → vacated s.frames b i s.places ≡ s.places
   vacated_missing b i e =
       vacated_none s.frames b i s.places
       (λ f l. ap (stands_at b i) (sym (get_or-take s.frames s.places f nowhere l))
@@ -162,17 +159,17 @@ module _ (s : Store) (x : List ℕ) (I : Inside s x) where
     b = number_of q.range.backing
 
     -- every window stays, but that of the page's old slot
-    others : (c j : ℕ) → named c j (ranges_of (used s)) ≡ true → (slot_at (line o p) (ranges_of (used s)) ≡ some (slot c j)) ⊎ (named c j rs' ≡ true)
+    others : (c j : ℕ) → named c j (ranges_of (used s)) ≡ true → (slot_at (line o p) (ranges_of (used s)) ≡ Some (slot c j)) ⊎ (named c j rs' ≡ true)
     others = rw e (put_named (range_of q.range) (line o p) (ranges_of (used s)) (rising s x I o p) G.kept)
 
     -- the page's new slot is in a window
     here : named b q.index rs' ≡ true
     here =
         slot_named (line o p) rs' (slot b q.index)
-        (ap (slot_at (line o p)) e ∙ put_hit (range_of q.range) (line o p) (ranges_of (used s)) L.low L.high ∙ ap (λ i. some (slot b i)) (sym L.index))
+        (ap (slot_at (line o p)) e ∙ put_hit (range_of q.range) (line o p) (ranges_of (used s)) L.low L.high ∙ ap (λ i. Some (slot b i)) (sym L.index))
 
     -- no frame stands at the new slot, unless it is the page's old one
-    nobody : (slot_at (line o p) (ranges_of (used s)) ≡ some (slot b q.index) → ⊥) → (f : ℕ) → f < s.frames → stands_at b q.index (place_at s.places f) ≡ false
+    nobody : (slot_at (line o p) (ranges_of (used s)) ≡ Some (slot b q.index) → ⊥) → (f : ℕ) → f < s.frames → stands_at b q.index (place_at s.places f) ≡ false
     nobody ne f l = by-test (stands_at b q.index (place_at s.places f)) (λ t. absurd (ne (G.alone (at t (inside_kept f l))))) (λ t. t)
       where
         at : stands_at b q.index (place_at s.places f) ≡ true → Kept (ranges_of (used s)) (place_at s.places f) → named b q.index (ranges_of (used s)) ≡ true
@@ -189,23 +186,23 @@ module _ (s : Store) (x : List ℕ) (I : Inside s x) where
       seat ps = set ps f (place b q.index)
 
       -- all windows stay, and the new slot was nobody's
-      quiet : ((c j : ℕ) → named c j (ranges_of (used s)) ≡ true → named c j rs' ≡ true) → (slot_at (line o p) (ranges_of (used s)) ≡ some (slot b q.index) → ⊥)
+      quiet : ((c j : ℕ) → named c j (ranges_of (used s)) ≡ true → named c j rs' ≡ true) → (slot_at (line o p) (ranges_of (used s)) ≡ Some (slot b q.index) → ⊥)
           → after ≡ seat s.places
       quiet h ne =
           ap (λ ps. seat (vacated s.frames b q.index ps)) (trimmed_all s.frames (ranges_of (used s)) rs' s.places inside_kept h)
           ∙ ap seat (vacated_none s.frames b q.index s.places (nobody ne))
 
       -- no range covers the page: nothing leaves
-      pub leaving_none : slot_at (line o p) (ranges_of (used s)) ≡ none → after ≡ set s.places f (place b q.index)
+      pub leaving_none : slot_at (line o p) (ranges_of (used s)) ≡ None → after ≡ set s.places f (place b q.index)
       leaving_none z =
           quiet (λ c j w. ⊎_elim (λ v. absurd (no_slot (slot c j) v)) (λ v. v) (others c j w)) (no_slot (slot b q.index))
         where
-          no_slot : (t : Slot) → slot_at (line o p) (ranges_of (used s)) ≡ some t → ⊥
+          no_slot : (t : Slot) → slot_at (line o p) (ranges_of (used s)) ≡ Some t → ⊥
           no_slot t v = let y : ◌≡◌ {A = ℕ} 0 1 = cc in omega arith
 
       -- the page was at index j of backing c
-      module _ (c j : ℕ) (old : slot_at (line o p) (ranges_of (used s)) ≡ some (slot c j)) where
-        only : (d k : ℕ) → slot_at (line o p) (ranges_of (used s)) ≡ some (slot d k) → (d ≡ c) × (k ≡ j)
+      module _ (c j : ℕ) (old : slot_at (line o p) (ranges_of (used s)) ≡ Some (slot c j)) where
+        only : (d k : ℕ) → slot_at (line o p) (ranges_of (used s)) ≡ Some (slot d k) → (d ≡ c) × (k ≡ j)
         only d k v = let z : slot d k ≡ slot c j = cc in (ap (λ t. t.inside) z, ap (λ t. t.index) z)
 
         -- some range still has that in its window: nothing leaves

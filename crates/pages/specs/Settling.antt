@@ -1,11 +1,9 @@
 -- THE PAGE STEP OF CODE: the range of a spot put into the table and a frame set at its index. It is the book's `settle`, and the store stays inside a call.
-use Rattle.std.specs.Prelude.{◌≡◌, refl, ◌⊎◌, ℕ, ◌*◌, ◌≤◌, ◌<◌}
+use Rattle.std.specs.Prelude.{◌≡◌, refl, ◌⊎◌, ℕ, ◌*◌, ◌≤◌, ◌<◌, Some}
 use Rattle.std.proofs.Math.Path.{ap, sym}
 use Rattle.std.proofs.Common.{ap₂, subst, ◌∙◌, inl, inr, ⊎_elim, le_refl, arith, get_or-set_same}
-use Rattle.std.proofs.Math.Option.{some}
 use mathlib.Core.List.{List, Memᴰ, head_d}
 use Rattle.std.proofs.Math.ListN.{length, get_or, length-set}
-use Rattle.frames.specs.declared.Frame.TheVariants.{At}
 use Rattle.table.specs.declared.PageRange.{PageRange}
 use Rattle.table.specs.declared.BackingPages.{BackingPages}
 use Rattle.table.specs.declared.BackingPages.TheVariants.{Single, Many}
@@ -65,7 +63,7 @@ pub record Lodged (s : Store) (o p : ℕ) (q : Spot) : Type 0 where
   pub positive : 0 < number_of q.range.backing
   pub cases : Lodging s q.range q.index
 
-module _ (s : Store) (x : List ℕ) (I : Inside s x) (f : ℕ) (hf : highest_below s.free 1024 ≡ At f) where
+module _ (s : Store) (x : List ℕ) (I : Inside s x) (f : ℕ) (hf : highest_below s.free 1024 ≡ Some f) where
   -- the highest free frame is the one that the book takes next
   pub next_frame : next (work_of s x) ≡ f
   unfolding work_of head_d
@@ -185,5 +183,5 @@ module _ (s : Store) (x : List ℕ) (I : Inside s x) (f : ℕ) (hf : highest_bel
       held = omega (arith, ap (λ k. k.backing) placed_at, L.positive);
       slot = ap (slot_at (line o p)) ranges_put
           ∙ put_hit (range_of n) (line o p) (ranges_of (used s)) L.low L.high
-          ∙ ap₂ (λ c i. some (slot c i)) (sym (ap (λ k. k.backing) placed_at)) (sym (ap (λ k. k.index) placed_at ∙ L.index));
+          ∙ ap₂ (λ c i. Some (slot c i)) (sym (ap (λ k. k.backing) placed_at)) (sym (ap (λ k. k.index) placed_at ∙ L.index));
     }

@@ -1,13 +1,11 @@
 -- THE PAGE STEPS: what the code does to store and pool is the book's step.
-use Rattle.std.specs.Prelude.{◌≡◌, true, false, List, take, replicate}
+use Rattle.std.specs.Prelude.{◌≡◌, true, false, List, take, replicate, Some, None}
 use Rattle.std.proofs.Math.Path.{refl, ap, sym}
 use Rattle.std.proofs.Common.{subst, ◌∙◌, le_refl, arith, take_all}
-use Rattle.std.proofs.Math.Option.{none}
 use Prim.Native.Nat.{ℕ, ◌+◌, ◌*◌, ◌/◌, ◌%◌, ◌≤◌, ◌<◌}
 use Rattle.std.proofs.Math.ListN.{length}
 use Rattle.std.proofs.lemmas.List.{length-replicate}
 use Rattle.std.proofs.Math.Seq.{length-take-le, paste}
-use Rattle.frames.specs.declared.Frame.TheVariants.{At}
 use Rattle.store.specs.declared.Store.{Store}
 use Rattle.pages.specs.declared.Spot.{Spot}
 use Rattle.ranges.specs.Range.{line, slot_at}
@@ -51,7 +49,7 @@ module _ (s : Store) (x : List ℕ) (I : Inside s x) (o p : ℕ) (hp : p < 26214
   made_good = (made_kept o p w w hp (here w I.good (size_is s x))).good
 
   -- a page settled at a spot, with the bytes z
-  settled_stepped : (q : Spot) → Lodged s o p q → (f : ℕ) → highest_below s.free 1024 ≡ At f → (t : Store) → Placed s q f t → (y z : List ℕ) → length y ≡ length x
+  settled_stepped : (q : Spot) → Lodged s o p q → (f : ℕ) → highest_below s.free 1024 ≡ Some f → (t : Store) → Placed s q f t → (y z : List ℕ) → length y ≡ length x
       → ((k : ℕ) → (k ≡ f → ⊥) → frame_at 4096 y k ≡ frame_at 4096 x k) → frame_at 4096 y f ≡ z
       → (v : Work) → settle (range_of q.range) q.index z w ≡ v → Good v → Stepped s x o p v t y f
   settled_stepped q L f hf t P y z l e h v c G =
@@ -65,7 +63,7 @@ module _ (s : Store) (x : List ℕ) (I : Inside s x) (o p : ℕ) (hp : p < 26214
         others = e;
       }
 
-  module _ (f : ℕ) (hf : highest_below s.free 1024 ≡ At f) (t : Store) (y : List ℕ) where
+  module _ (f : ℕ) (hf : highest_below s.free 1024 ≡ Some f) (t : Store) (y : List ℕ) where
     inside : f * 4096 + 4096 ≤ length x
     inside = frame_inside s x I f (frame_below s x I f hf)
 
@@ -93,7 +91,7 @@ module _ (s : Store) (x : List ℕ) (I : Inside s x) (o p : ℕ) (hp : p < 26214
         (writable o p w) (sym c.0) made_good
 
   -- AN ABSENT PAGE made writable is added
-  pub absent_stepped : page_of (line o p) w ≡ none → (t : Store) (y : List ℕ) (f : ℕ) → Stepped s x o p (add_page o p w) t y f → Stepped s x o p (writable o p w) t y f
+  pub absent_stepped : page_of (line o p) w ≡ None → (t : Store) (y : List ℕ) (f : ℕ) → Stepped s x o p (add_page o p w) t y f → Stepped s x o p (writable o p w) t y f
   absent_stepped e t y f S = subst (λ (v : Work). Stepped s x o p v t y f) (sym (absent_added o p w e).0) S
 
   -- A PRIVATE PAGE stays as it is

@@ -1,8 +1,7 @@
 -- WHAT TRIMMING AND VACATING DO where few places are met: nothing, or one place set.
-use Rattle.std.specs.Prelude.{◌≡◌, refl, true, false, ◌⊎◌, ℕ, zero, suc, ◌+◌, ◌-◌, ◌≤◌, ◌<◌, length, take, drop, set}
+use Rattle.std.specs.Prelude.{◌≡◌, refl, true, false, ◌⊎◌, ℕ, zero, suc, ◌+◌, ◌-◌, ◌≤◌, ◌<◌, length, take, drop, set, Some}
 use Rattle.std.proofs.Common.{ap, ap₂, sym, ◌∙◌, inl, inr, ⊎_elim, arith, length-set, get_or-set_other, get_or-set_same, ext_get_or, eq-eqb, lt-ltb}
 use Rattle.std.proofs.lemmas.Bool.{false≢true}
-use Rattle.std.proofs.Math.Option.{some}
 use mathlib.Core.List.{List, [], ◌∷◌, ◌++◌, map, Memᴰ}
 use Rattle.places.specs.declared.Place.{Place}
 use Rattle.lists.specs.Test.{by-eq, by-lt, by-test}
@@ -21,25 +20,25 @@ use Rattle.store.specs.Settle.{vacated_length}
 
 -- where the other pages of a range that is put in are at their old slots, no slot falls out of all windows but that of the line's page g
 pub put_named : (n : Range) (g : ℕ) (rs : List Range) → Rising 0 rs
-    → ((h : ℕ) (t : Slot) → from n ≤ h → h < upto n → (h ≡ g → ⊥) → slot_at h rs ≡ some t → t ≡ slot_in h n)
-    → (b i : ℕ) → named b i rs ≡ true → (slot_at g rs ≡ some (slot b i)) ⊎ (named b i (put n rs) ≡ true)
+    → ((h : ℕ) (t : Slot) → from n ≤ h → h < upto n → (h ≡ g → ⊥) → slot_at h rs ≡ Some t → t ≡ slot_in h n)
+    → (b i : ℕ) → named b i rs ≡ true → (slot_at g rs ≡ Some (slot b i)) ⊎ (named b i (put n rs) ≡ true)
 put_named n g rs R K b i e =
     let N : In b i rs = named_in b i rs e in
     let lo = N.low in
     let hi = N.high in
     let h : ℕ = from N.r + (i - N.r.offset) in
     let j : N.r.offset + (h - from N.r) ≡ i = omega arith in
-    let S : slot_at h rs ≡ some (slot b i) = slot_mem 0 h N.r rs R N.mem (omega arith) (omega arith) ∙ ap₂ (λ c k. some (slot c k)) (sym N.backing) j in
+    let S : slot_at h rs ≡ Some (slot b i) = slot_mem 0 h N.r rs R N.mem (omega arith) (omega arith) ∙ ap₂ (λ c k. Some (slot c k)) (sym N.backing) j in
     by-eq h g
     (λ z. inl (ap (λ k. slot_at k rs) (sym z) ∙ S))
     (λ ne. inr (slot_named h (put n rs) (slot b i) (there h ne S)))
   where
-    there : (h : ℕ) → (h ≡ g → ⊥) → slot_at h rs ≡ some (slot b i) → slot_at h (put n rs) ≡ some (slot b i)
+    there : (h : ℕ) → (h ≡ g → ⊥) → slot_at h rs ≡ Some (slot b i) → slot_at h (put n rs) ≡ Some (slot b i)
     there h ne S =
         by-lt h (from n)
         (λ l. put_other n h rs (inl l) ∙ S)
         (λ l. by-lt h (upto n)
-        (λ u. put_hit n h rs l u ∙ ap some (sym (K h (slot b i) l u ne S)))
+        (λ u. put_hit n h rs l u ∙ ap Some (sym (K h (slot b i) l u ne S)))
         (λ u. put_other n h rs (inr u) ∙ S))
 
 -- a range put in whose window lies in that of a range of the table names nothing new

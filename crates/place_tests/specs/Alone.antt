@@ -3,7 +3,7 @@ use Rattle.std.specs.Prelude.{◌≡◌, refl, Bool, true, false, not, ◌&&◌,
 use Rattle.std.proofs.Common.{sym, ◌∙◌, add-zero, arith, eq-eqb, lt-ltb, ne_eqb}
 use Rattle.std.proofs.lemmas.Bool.{false≢true}
 use Rattle.places.specs.declared.Place.{Place}
-use Rattle.charts.specs.declared.Chains.{Chains}
+use Rattle.chains.specs.declared.Chains.{Chains}
 use Rattle.lists.specs.Test.{by-eq}
 use Rattle.lists.specs.Every.{at_below}
 use Rattle.places.specs.Places.{place_at, stands_at}

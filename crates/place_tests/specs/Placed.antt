@@ -3,7 +3,7 @@ use Rattle.std.specs.Prelude.{◌≡◌, refl, Bool, true, false, ◌&&◌, List
 use Rattle.std.proofs.Common.{sym, ◌∙◌, arith, eq-eqb, eqb-true, ne_eqb}
 use Rattle.table.specs.declared.PageRange.{PageRange}
 use Rattle.places.specs.declared.Place.{Place}
-use Rattle.charts.specs.declared.Chains.{Chains}
+use Rattle.chains.specs.declared.Chains.{Chains}
 use Rattle.store.specs.declared.Store.{Store}
 use Rattle.place_tests.specs.declared.GaveUpAt.{GaveUpAt}
 use Rattle.std.proofs.lemmas.Bool.{false≢true}

@@ -10,7 +10,7 @@ use Rattle.lists.specs.Test.{by-eq, by-test}
 use Rattle.lists.specs.Every.{all_below, every}
 use Rattle.table.specs.Table.{zero_range}
 use Rattle.places.specs.Places.{place_at, stands_at}
-use Rattle.charts.specs.declared.Chains.{Chains}
+use Rattle.chains.specs.declared.Chains.{Chains}
 use Rattle.chains.specs.Chains.{in_chain}
 use Rattle.chains.specs.Walk.{Walk, walk_all}
 use Rattle.charts.specs.Charts.{chain_at, chain_to, FrameChains}

@@ -1,4 +1,5 @@
-// The tests of the frames' places and of the free map, one function for each test of store/specs/Sound.antt. Any store may come in; chains must be those of the store.
+// The tests of the frames' places and of the free map, one function for each test of store/specs/Sound.antt. Any store may come in; chains must be those of the
+// store. By hand: bounds that are tested one after the other stand at each test, since a type that held all would ask more of the first.
 #![tactic(auto)]
 
 ghost use Rattle.std.specs.Prelude.{◌≡◌, true, false, not, ◌&&◌, ◌==◌, List, ℕ, ◌+◌, ◌*◌, ◌≤◌, ◌<◌, count_by, get_or, replicate};
@@ -18,7 +19,7 @@ ghost use Rattle.window_cover.specs.Intervals.{covered, Indexed};
 
 mod seeking;
 
-use charts::Chains;
+use chains::Chains;
 use places::Place;
 use seeking::Seeking;
 use store::Store;
@@ -35,8 +36,9 @@ fn alone(s: &Store, chains: &Chains, f: usize) -> bool
 {
     let place = s.places[f];
     let mut earlier = chains.next[f] as usize;
+    // by hand: a chain is of indices, since memory is fixed
     while 0 < earlier {
-        if places::stands_at(s.places[earlier - 1], place.backing, place.index) {
+        if (s.places[earlier - 1]).stands_at(place.backing, place.index) {
             return false;
         }
         earlier = chains.next[earlier - 1] as usize;
@@ -196,8 +198,9 @@ fn stands(s: &Store, chains: &Chains, backing: u32) -> bool
     ensures { result ≡ stands? s.now.places s.now.frames backing 0 }
 {
     let mut link = chains.heads[charts::chain_to(backing, 0)] as usize;
+    // by hand: a chain is of indices, since memory is fixed
     while 0 < link {
-        if places::stands_at(s.places[link - 1], backing, 0) {
+        if (s.places[link - 1]).stands_at(backing, 0) {
             return true;
         }
         link = chains.next[link - 1] as usize;
@@ -234,22 +237,19 @@ pub fn all_seated(s: &Store, chains: &Chains) -> bool
     true
 }
 
-// Whether a place is zero, as that of a free frame. by hand: `Place` has no `PartialEq` yet.
-fn is_zero(p: &Place) -> bool
-    ensures { result ≡ zero_place? p.now }
-{
-    p.backing == 0 && p.index == 0
-}
-
 // Whether the bit of frame f is set exactly if the frame is free, and its place is that of a frame of the store in use, or zero.
 #[tactic(auto, using(crate::specs::Bits::bit_free, crate::specs::Bits::bit_used, crate::specs::Bits::bit_beyond))]
 fn bit(set: bool, p: &Place, frames: usize, f: usize) -> bool
     ensures { result ≡ place_kept? frames f set p.now }
 {
     if f < frames {
-        if set { is_zero(p) } else { 0 < p.backing }
+        if set {
+            *p == Place::NOWHERE
+        } else {
+            0 < p.backing
+        }
     } else {
-        !set && is_zero(p)
+        !set && *p == Place::NOWHERE
     }
 }
 
@@ -272,7 +272,7 @@ fn all_free(s: &Store, first: usize) -> bool
 {
     s.places[first..first + 64]
         .iter()
-        .filter(|p| !is_zero(p))
+        .filter(|p| **p != Place::NOWHERE)
         .count()
         == 0
 }

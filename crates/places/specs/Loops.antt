@@ -1,10 +1,9 @@
 -- What one turn, and the end, of each loop over the table says.
-use Rattle.std.specs.Prelude.{◌≡◌, true, false, List, [], ◌∷◌, ◌++◌, ℕ, ◌+◌, ◌≤◌, ◌<◌, ltb, drop, length, take}
+use Rattle.std.specs.Prelude.{◌≡◌, true, false, List, [], ◌∷◌, ◌++◌, ℕ, ◌+◌, ◌≤◌, ◌<◌, ltb, drop, length, take, Some, None}
 use Rattle.std.proofs.Common.{ap, ◌∙◌, add-one, arith, le-ltb, lt-ltb, take-suc}
 use Rattle.std.proofs.Math.Path.{sym}
 use Rattle.lists.specs.Test.{pick}
 use Rattle.lists.specs.Rest.{left_cons, left_end}
-use Rattle.frames.specs.declared.Frame.TheVariants.{At, Nothing}
 use Rattle.places.specs.declared.Place.{Place}
 use Rattle.places.specs.Places.{frame_at, nowhere, place_at, stands_at, used_count}
 
@@ -14,11 +13,11 @@ module _ (b i : ℕ) (ps : List Place) (n : ℕ) (m : n ≤ length ps) where
   unfolding frame_at
   frame_turn k h e = sym (rw (left_cons n ps k nowhere h m, e) (ap (λ j. frame_at b i j (drop (k + 1) (take n ps))) (sym (add-one k))))
 
-  pub frame_hit : (k : ℕ) → k < n → stands_at b i (place_at ps k) ≡ true → frame_at b i k (drop k (take n ps)) ≡ At k
+  pub frame_hit : (k : ℕ) → k < n → stands_at b i (place_at ps k) ≡ true → frame_at b i k (drop k (take n ps)) ≡ Some k
   unfolding frame_at
   frame_hit k h e = rw (left_cons n ps k nowhere h m, e)
 
-  pub frame_end : (k : ℕ) → n ≤ k → frame_at b i k (drop k (take n ps)) ≡ Nothing
+  pub frame_end : (k : ℕ) → n ≤ k → frame_at b i k (drop k (take n ps)) ≡ None
   unfolding frame_at
   frame_end k h = rw (left_end n ps k h)
 

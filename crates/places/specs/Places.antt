@@ -1,10 +1,8 @@
 -- The vector table: "all page vectors", kept by frame. Entry f says where frame f stands, so "Each frame is free or stands in exactly one backing
 -- at one index" holds by form; "no two at the same" does not, and is a test of the store. A list of places has any length; of a table, the first
 -- n entries are those of the store's n frames.
-use Rattle.std.specs.Prelude.{◌≡◌, Bool, ◌&&◌, List, [], ◌∷◌, ℕ, suc, ◌+◌, eqb, ltb, get_or, length}
+use Rattle.std.specs.Prelude.{◌≡◌, Bool, ◌&&◌, List, [], ◌∷◌, ℕ, suc, ◌+◌, eqb, ltb, get_or, length, Option, Some, None}
 use Rattle.lists.specs.Test.{pick}
-use Rattle.frames.specs.declared.Frame.{Frame}
-use Rattle.frames.specs.declared.Frame.TheVariants.{At, Nothing}
 use Rattle.frames.specs.Free.{is_free}
 use Rattle.places.specs.declared.Place.{Place}
 
@@ -23,9 +21,9 @@ abbrev pub stands_at : ℕ → ℕ → Place → Bool
 stands_at b i p = ltb 0 p.backing && (eqb p.backing b && eqb p.index i)
 
 -- "Page p of a range is the vector's entry at offset + (p − start), or absent": the first frame that stands at this backing and index, counted from k
-unfoldable pub frame_at : ℕ → ℕ → ℕ → List Place → Frame
-frame_at b i k [] = Nothing
-frame_at b i k (p ∷ ps) = pick (stands_at b i p) (At k) (frame_at b i (suc k) ps)
+unfoldable pub frame_at : ℕ → ℕ → ℕ → List Place → Option ℕ
+frame_at b i k [] = None
+frame_at b i k (p ∷ ps) = pick (stands_at b i p) (Some k) (frame_at b i (suc k) ps)
 
 -- "released frames are free": what stood at this backing and index is free
 abbrev pub emptied_at : ℕ → ℕ → Place → Place

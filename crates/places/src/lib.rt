@@ -5,15 +5,23 @@ ghost use Rattle.std.specs.Prelude.{◌≡◌};
 ghost use Rattle.places.specs.Places.{stands_at};
 
 // Where a frame stands in a page vector; 0, 0 when free.
-#[derive(Clone, Copy)]
+#[derive(Clone, Copy, PartialEq, Eq)]
 pub struct Place {
     pub backing: u32,
     pub index: u32,
 }
 
-// Whether a frame in use stands at this backing and index. Backing 0 is no backing: no frame stands there.
-pub fn stands_at(p: Place, backing: u32, index: u32) -> bool
-    ensures { result ≡ stands_at backing index p }
-{
-    (0 < p.backing) & ((p.backing == backing) & (p.index == index))
+impl Place {
+    // The place of a free frame.
+    pub const NOWHERE: Place = Place {
+        backing: 0,
+        index: 0,
+    };
+
+    // Whether a frame in use stands at this backing and index. Backing 0 is no backing: no frame stands there.
+    pub fn stands_at(self, backing: u32, index: u32) -> bool
+        ensures { result ≡ stands_at backing index self }
+    {
+        0 < self.backing && self == Place { backing, index }
+    }
 }

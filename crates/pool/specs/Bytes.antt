@@ -1,5 +1,5 @@
 -- The bytes of the lent pool, by frames. The page size is a parameter of every definition; the contracts have 4,096. Sentences quoted are document 01's.
-use Rattle.std.specs.Prelude.{Bool, ◌&&◌, List, [], ℕ, ◌+◌, ◌*◌, leb, length, take, drop, replicate}
+use Rattle.std.specs.Prelude.{List, [], ℕ, ◌+◌, ◌*◌, Option, Some, None, leb, length, take, drop, replicate}
 use Rattle.std.proofs.Math.Seq.{paste}
 use Rattle.lists.specs.Test.{pick}
 
@@ -23,17 +23,15 @@ unfoldable pub frame_copied : ℕ → List ℕ → ℕ → ℕ → List ℕ
 frame_copied size d to from = paste d (to * size) (frame_at size d from) size
 
 -- "A present page can be shown as that very part of the pool; an absent page or a refused call (1, 2, 3, 6) shows an empty part": a frame is shown
--- where it is present and lies in the pool
-unfoldable pub shows : ℕ → List ℕ → Bool → ℕ → Bool
-shows size d present f = present && leb (f * size + size) (length d)
-
--- the bytes of the part shown ("4,096 bytes from the frame's start, or empty")
-unfoldable pub shown : ℕ → List ℕ → Bool → ℕ → List ℕ
-shown size d present f = pick (shows size d present f) (frame_at size d f) []
+-- where there is one and it lies in the pool; the bytes of the part shown ("4,096 bytes from the frame's start, or empty")
+unfoldable pub shown : ℕ → List ℕ → Option ℕ → List ℕ
+shown size d None = []
+shown size d (Some f) = pick (leb (f * size + size) (length d)) (frame_at size d f) []
 
 -- where in the pool the part shown begins; an empty part begins at 0
-unfoldable pub shown_from : ℕ → List ℕ → Bool → ℕ → ℕ
-shown_from size d present f = pick (shows size d present f) (f * size) 0
+unfoldable pub shown_from : ℕ → List ℕ → Option ℕ → ℕ
+shown_from size d None = 0
+shown_from size d (Some f) = pick (leb (f * size + size) (length d)) (f * size) 0
 
 -- the address of byte i of a lent slice that begins at p: a part of the slice that begins there is "that very part", and no copy
 abbrev pub address : ℕ × ℕ → ℕ → ℕ × ℕ

@@ -1,5 +1,5 @@
 -- What a change of the pool's bytes is frame by frame, for callers, and what is shown. The page size is a parameter.
-use Rattle.std.specs.Prelude.{◌≡◌, Bool, true, false, List, [], ℕ, ◌+◌, ◌-◌, ◌*◌, ◌≤◌, ◌<◌, length, take, drop, replicate}
+use Rattle.std.specs.Prelude.{◌≡◌, refl, Some, None, List, [], ℕ, ◌+◌, ◌-◌, ◌*◌, ◌≤◌, ◌<◌, length, take, drop, replicate}
 use Rattle.std.proofs.Math.Path.{ap, sym}
 use Rattle.std.proofs.Common.{◌∙◌, add-zero, mul-le-mul_right, suc-mul, drop-drop, take-take}
 use native.Mathlib.Omega.{arith}
@@ -8,10 +8,9 @@ use Rattle.std.proofs.lemmas.List.{length-replicate}
 use Rattle.std.proofs.Math.Seq.{paste, length-take-le}
 use Rattle.std.proofs.lemmas.List.Edits.{length-paste}
 use borrow.Author.Tests.{le-leb, lt-leb}
-use Rattle.lists.specs.Every.{none_both}
 use Rattle.lists.specs.Test.{by-lt}
 use Rattle.lists.specs.Part.{part_above, part_below, part_inside, part_part, paste_all, paste_same}
-use Rattle.pool.specs.Bytes.{address, frame_at, filled, frame_zeroed, frame_copied, shows, shown, shown_from}
+use Rattle.pool.specs.Bytes.{address, frame_at, filled, frame_zeroed, frame_copied, shown, shown_from}
 
 module _ (size : ℕ) where
   -- frames do not overlap
@@ -101,36 +100,29 @@ module _ (size : ℕ) where
     copied_length = store_length d to (frame_at size d from) inside (frame_length d from source)
 
   -- ---- what is shown, and where it begins
-  module _ (d : List ℕ) (p : Bool) (f : ℕ) where
-    shows_absent : p ≡ false → shows size d p f ≡ false
-    unfolding shows
-    shows_absent e = rw e
-
-    shows_outside : length d < f * size + size → shows size d p f ≡ false
-    unfolding shows
-    shows_outside h = rw (lt-leb (f * size + size) (length d) h) (none_both p)
-
-    shows_frame : p ≡ true → f * size + size ≤ length d → shows size d p f ≡ true
-    unfolding shows
-    shows_frame e h = rw (e, le-leb (f * size + size) (length d) h)
-
-    pub shown_absent : p ≡ false → ([] ≡ shown size d p f) × (0 ≡ shown_from size d p f)
+  module _ (d : List ℕ) where
+    pub shown_absent : ([] ≡ shown size d None) × (0 ≡ shown_from size d None)
     unfolding shown shown_from
-    shown_absent e = let h = shows_absent e in (rw h, rw h)
+    shown_absent = (refl, refl)
 
-    pub shown_outside : length d < f * size + size → ([] ≡ shown size d p f) × (0 ≡ shown_from size d p f)
-    unfolding shown shown_from
-    shown_outside k = let h = shows_outside k in (rw h, rw h)
+    module _ (f : ℕ) where
+      pub shown_outside : length d < f * size + size → ([] ≡ shown size d (Some f)) × (0 ≡ shown_from size d (Some f))
+      unfolding shown shown_from
+      shown_outside k = let h = lt-leb (f * size + size) (length d) k in (rw h, rw h)
 
-    pub shown_frame : p ≡ true → f * size + size ≤ length d → (frame_at size d f ≡ shown size d p f) × (f * size ≡ shown_from size d p f)
-    unfolding shown shown_from
-    shown_frame e k = let h = shows_frame e k in (rw h, rw h)
+      pub shown_frame : f * size + size ≤ length d → (frame_at size d f ≡ shown size d (Some f)) × (f * size ≡ shown_from size d (Some f))
+      unfolding shown shown_from
+      shown_frame k = let h = le-leb (f * size + size) (length d) k in (rw h, rw h)
 
-    -- the frame as the code takes it, up to index e
-    pub shown_code : (e : ℕ) → e ≡ f * size + size → p ≡ true → f * size + size ≤ length d → take (e - f * size) (drop (f * size) d) ≡ shown size d p f
-    unfolding frame_at
-    shown_code e q i h = let z : e - f * size ≡ size = omega arith in rw z (shown_frame i h).0
+      -- the frame as the code takes it, up to index e
+      pub shown_code : (e : ℕ) → e ≡ f * size + size → f * size + size ≤ length d → take (e - f * size) (drop (f * size) d) ≡ shown size d (Some f)
+      unfolding frame_at
+      shown_code e q h = let z : e - f * size ≡ size = omega arith in rw z (shown_frame h).0
 
 -- a part that begins i bytes into a slice
 pub begins_at : (p : ℕ × ℕ) (i j : ℕ) → i ≡ j → (p.0, i + p.1) ≡ address p j
 begins_at p i j e = let z : i + p.1 ≡ p.1 + j = omega arith in ap (λ k. (p.0, k)) z
+
+-- a part that begins where the slice does
+pub begins_there : (p : ℕ × ℕ) (j : ℕ) → 0 ≡ j → p ≡ address p j
+begins_there p j e = let z : p.1 ≡ p.1 + j = omega arith in ap (λ k. (p.0, k)) z

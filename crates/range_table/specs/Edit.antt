@@ -1,5 +1,5 @@
 -- The table of a store edited: what the steps make of it.
-use Rattle.std.specs.Prelude.{◌≡◌, List, [], ◌∷◌, ◌++◌, ℕ, ◌+◌, ◌-◌, ◌≤◌, min, length, drop, replicate}
+use Rattle.std.specs.Prelude.{◌≡◌, List, [], ◌∷◌, ◌++◌, ℕ, ◌+◌, ◌-◌, ◌≤◌, min, length, drop, replicate, Option, Some, None}
 use Rattle.std.proofs.Common.{refl, ap, ap₂, sym, ◌∙◌, arith, take-add, take-append-drop}
 use Rattle.std.proofs.Math.Seq.{paste}
 use Rattle.std.proofs.lemmas.Slice.{put_mid-paste}
@@ -9,14 +9,12 @@ use Rattle.lists.specs.Test.{by-lt}
 use Rattle.lists.specs.Every.{All}
 use Rattle.lists.specs.Part.{paste_none}
 use Rattle.table.specs.declared.PageRange.{PageRange}
-use Rattle.table.specs.declared.Piece.{Piece}
-use Rattle.table.specs.declared.Piece.TheVariants.{Empty, Part}
 use Rattle.table.specs.Table.{Table, zero_range}
 use Rattle.edit.specs.declared.RangeTable.{RangeTable}
 use Rattle.edit.specs.Edit.{put_table, cut_table}
 use Rattle.store.specs.declared.Store.{Store}
 use Rattle.store.specs.Abs.{table_of}
-use Rattle.sheet.specs.Sheet.{with_count, with_ranges}
+use Rattle.store.specs.With.{with_count, with_ranges}
 use Rattle.range_table.specs.Shift.{Opened, laid, open_down, open_up}
 
 -- a store with another table
@@ -49,15 +47,15 @@ pub record Shifted (s : Store) (from to : ℕ) (t : Store) : Type 0 where
   pub rows : Opened s.ranges s.count from to t.ranges
 
 -- a part of a range, as rows
-abbrev pub rows_of : Piece → List PageRange
-rows_of Empty = []
-rows_of (Part r) = r ∷ []
+abbrev pub rows_of : Option PageRange → List PageRange
+rows_of None = []
+rows_of (Some r) = r ∷ []
 
 -- what is written for three parts
 abbrev pub made_of : List PageRange → List PageRange → List PageRange → List PageRange
 made_of b m a = b ++ (m ++ a)
 
-abbrev pub parts_made : Piece → Piece → Piece → List PageRange
+abbrev pub parts_made : Option PageRange → Option PageRange → Option PageRange → List PageRange
 parts_made before middle after = made_of (rows_of before) (rows_of middle) (rows_of after)
 
 -- a list of rows laid over the table from `at` on

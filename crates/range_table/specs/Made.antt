@@ -1,12 +1,10 @@
 -- A range put over its span and pages cut out, from the two searches, the parts and the rows written.
-use Rattle.std.specs.Prelude.{◌≡◌, refl, ℕ, ◌+◌, ◌-◌, ◌≤◌, ◌<◌, length}
+use Rattle.std.specs.Prelude.{◌≡◌, refl, ℕ, ◌+◌, ◌-◌, ◌≤◌, ◌<◌, length, Option, Some, None}
 use Rattle.std.proofs.Common.{ap, ap₂, ◌∙◌, arith, length-append}
 use mathlib.Core.List.{List, [], ◌∷◌, ◌++◌, append_assoc}
 use Rattle.ranges.specs.Range.{carve, from, upto, front, back}
 use Rattle.ranges.specs.Search.{starts_before, ends_by, ends_few}
 use Rattle.table.specs.declared.PageRange.{PageRange}
-use Rattle.table.specs.declared.Piece.{Piece}
-use Rattle.table.specs.declared.Piece.TheVariants.{Empty, Part}
 use Rattle.table.specs.Table.{Table, Small, ranged, ranged_of, zero_range, parts_of}
 use Rattle.table.specs.Searching.{used_length}
 use Rattle.edit.specs.declared.RangeTable.{RangeTable}
@@ -16,19 +14,18 @@ use Rattle.edit.specs.Keeps.{cut_keeps, put_keeps}
 use Rattle.store.specs.declared.Store.{Store}
 use Rattle.store.specs.Abs.{used}
 use Rattle.store.specs.Ranges.{cut_rest, put_rest}
-use Rattle.sheet.specs.Sheet.{range_at, with_range, with_ranges}
+use Rattle.store.specs.With.{range_at, with_range, with_ranges}
 use Rattle.range_table.specs.Shift.{Opened, laid, laid_more, laid_none, laid_one, open_same, spliced_laid}
 use Rattle.range_table.specs.Edit.{Blank, CutIs, PutIs, Shifted, made_of, parts_made, rows_of, with_rows, with_table}
 
 -- ---- a part as a row
-
-pub lay_none : (s : Store) (at : ℕ) (q : Piece) → q ≡ Empty → s ≡ with_rows at (rows_of q) s
+pub lay_none : (s : Store) (at : ℕ) (q : Option PageRange) → q ≡ None → s ≡ with_rows at (rows_of q) s
 lay_none s at q e = rw e (ap (λ k. with_ranges k s) (laid_none s.ranges at))
 
-pub lay_fits : (at : ℕ) (q : Piece) (r : PageRange) → q ≡ Part r → at + length (rows_of q) ≤ 512 → at < 512
+pub lay_fits : (at : ℕ) (q : Option PageRange) (r : PageRange) → q ≡ Some r → at + length (rows_of q) ≤ 512 → at < 512
 lay_fits at q r e h = let k : at + 1 ≤ 512 = rw e at h in omega arith
 
-pub lay_one : (s t : Store) (at : ℕ) (q : Piece) (r : PageRange) → length s.ranges ≡ 512 → at < 512 → q ≡ Part r → t ≡ with_range at r s → t ≡ with_rows at (rows_of q) s
+pub lay_one : (s t : Store) (at : ℕ) (q : Option PageRange) (r : PageRange) → length s.ranges ≡ 512 → at < 512 → q ≡ Some r → t ≡ with_range at r s → t ≡ with_rows at (rows_of q) s
 lay_one s t at q r l h e f = rw e (f ∙ ap (λ k. with_ranges k s) (laid_one s.ranges at r (omega arith)))
 
 -- ---- parts written where the rows from p up to q were
@@ -66,24 +63,24 @@ unspliced s p full few inside blank =
     ∙ spliced_laid s.ranges s.ranges [] s.count p p full few (omega arith) inside (omega arith) (open_same s.ranges s.count p (p + 0) full few inside blank y)
     ∙ ap (λ k. spliced s.ranges s.count p k []) z
 
-made_ranged : (before : Piece) (n : PageRange) (after : Piece) → ranged_of (parts_made before (Part n) after) ≡ parts_of before ++ (ranged n ∷ parts_of after)
+made_ranged : (before : Option PageRange) (n : PageRange) (after : Option PageRange) → ranged_of (parts_made before (Some n) after) ≡ parts_of before ++ (ranged n ∷ parts_of after)
 unfolding ranged_of
-made_ranged Empty n Empty = refl
-made_ranged Empty n (Part y) = refl
-made_ranged (Part x) n Empty = refl
-made_ranged (Part x) n (Part y) = refl
+made_ranged None n None = refl
+made_ranged None n (Some y) = refl
+made_ranged (Some x) n None = refl
+made_ranged (Some x) n (Some y) = refl
 
-both_ranged : (before after : Piece) → ranged_of (parts_made before Empty after) ≡ parts_of before ++ parts_of after
+both_ranged : (before after : Option PageRange) → ranged_of (parts_made before None after) ≡ parts_of before ++ parts_of after
 unfolding ranged_of
-both_ranged Empty Empty = refl
-both_ranged Empty (Part y) = refl
-both_ranged (Part x) Empty = refl
-both_ranged (Part x) (Part y) = refl
+both_ranged None None = refl
+both_ranged None (Some y) = refl
+both_ranged (Some x) None = refl
+both_ranged (Some x) (Some y) = refl
 
 -- a part is at most one row
-pub one_row : (q : Piece) → length (rows_of q) ≤ 1
-one_row Empty = omega arith
-one_row (Part r) = omega arith
+pub one_row : (q : Option PageRange) → length (rows_of q) ≤ 1
+one_row None = omega arith
+one_row (Some r) = omega arith
 
 -- what a splice makes of a store
 abbrev pub spliced_in : Store → ℕ → ℕ → List PageRange → Store
@@ -132,19 +129,19 @@ module _ (s : Store) (T : Table s.ranges s.count) where
     last_met : q ≡ starts_before (upto (ranged n)) (ranged_of (used s))
     last_met = eq ∙ ap (λ k. starts_before k (ranged_of (used s))) ee
 
-    pub put_over : (f l : PageRange) (before after : Piece) (t : Store) → p < q → f ≡ range_at s p → l ≡ range_at s (q - 1) → parts_of before ≡ front a (ranged f)
-        → parts_of after ≡ back e (ranged l) → t ≡ spliced_in s p (q - p) (parts_made before (Part n) after) → PutIs n s t
+    pub put_over : (f l : PageRange) (before after : Option PageRange) (t : Store) → p < q → f ≡ range_at s p → l ≡ range_at s (q - 1) → parts_of before ≡ front a (ranged f)
+        → parts_of after ≡ back e (ranged l) → t ≡ spliced_in s p (q - p) (parts_made before (Some n) after) → PutIs n s t
     put_over f l before after t k ef el ex ey y =
         put_made t (y ∙ ap (λ (r : RangeTable). with_table r s)
-        (put_met s.ranges s.count T n p q h first_met last_met (parts_made before (Part n) after) _ _ _ (parts_of before) (parts_of after) k refl
+        (put_met s.ranges s.count T n p q h first_met last_met (parts_made before (Some n) after) _ _ _ (parts_of before) (parts_of after) k refl
         (made_ranged before n after) (ex ∙ ap₂ (λ i r. front i (ranged r)) ea ef) (ey ∙ ap₂ (λ i r. back i (ranged r)) ee el) refl refl))
 
-    pub put_between : (t : Store) → q ≤ p → t ≡ spliced_in s p (p - p) (parts_made Empty (Part n) Empty) → PutIs n s t
+    pub put_between : (t : Store) → q ≤ p → t ≡ spliced_in s p (p - p) (parts_made None (Some n) None) → PutIs n s t
     put_between t k y =
         let z : p - p ≡ 0 = omega arith in
         let x : t ≡ spliced_in s p 0 (n ∷ []) = rw z at y in
         put_made t (x ∙ ap (λ (r : RangeTable). with_table r s)
-        (put_none s.ranges s.count T n p q h first_met last_met (n ∷ []) _ _ k (made_ranged Empty n Empty) refl (omega arith)))
+        (put_none s.ranges s.count T n p q h first_met last_met (n ∷ []) _ _ k (made_ranged None n None) refl (omega arith)))
 
   -- ---- the pages from a up to e cut out
   module _ (a e : ℕ) (h : a < e) (room : length (carve a e (ranged_of (used s))) ≤ 512) (p q : ℕ) (ep : p ≡ ends_by a (ranged_of (used s)))
@@ -154,7 +151,7 @@ module _ (s : Store) (T : Table s.ranges s.count) where
         let k = cut_keeps s.ranges s.count T a e h room (cut_table s.ranges s.count a e) refl in
         record { same = y; table = rw y k; blank = rw y (cut_rest s.ranges s.count a e (cut_table s.ranges s.count a e) refl) }
 
-    module _ (f l : PageRange) (before after : Piece) (k : p < q) (ef : f ≡ range_at s p) (el : l ≡ range_at s (q - 1)) (eb : parts_of before ≡ front a (ranged f))
+    module _ (f l : PageRange) (before after : Option PageRange) (k : p < q) (ef : f ≡ range_at s p) (el : l ≡ range_at s (q - 1)) (eb : parts_of before ≡ front a (ranged f))
         (er : parts_of after ≡ back e (ranged l)) where
       ex : parts_of before ≡ front a (ranged (range_at s p))
       ex = eb ∙ ap (λ r. front a (ranged r)) ef
@@ -162,17 +159,17 @@ module _ (s : Store) (T : Table s.ranges s.count) where
       ey : parts_of after ≡ back e (ranged (range_at s (q - 1)))
       ey = er ∙ ap (λ r. back e (ranged r)) el
 
-      pub cut_fits : s.count + length (parts_made before Empty after) ≤ 512 + (q - p)
+      pub cut_fits : s.count + length (parts_made before None after) ≤ 512 + (q - p)
       cut_fits =
-          cut_room s.ranges s.count T a e p q h ep eq (parts_made before Empty after) _ (parts_of before) (parts_of after) k refl (both_ranged before after) ex ey room
+          cut_room s.ranges s.count T a e p q h ep eq (parts_made before None after) _ (parts_of before) (parts_of after) k refl (both_ranged before after) ex ey room
 
-      pub cut_over : (t : Store) → t ≡ spliced_in s p (q - p) (parts_made before Empty after) → CutIs a e s t
+      pub cut_over : (t : Store) → t ≡ spliced_in s p (q - p) (parts_made before None after) → CutIs a e s t
       cut_over t y =
           cut_made t (y ∙ ap (λ (r : RangeTable). with_table r s)
-          (cut_met s.ranges s.count T a e p q h ep eq (parts_made before Empty after) _ _ _ (parts_of before) (parts_of after) k refl (both_ranged before after) ex ey refl refl))
+          (cut_met s.ranges s.count T a e p q h ep eq (parts_made before None after) _ _ _ (parts_of before) (parts_of after) k refl (both_ranged before after) ex ey refl refl))
 
     pub cut_nothing : Blank s → q ≤ p → CutIs a e s s
     cut_nothing blank k =
         cut_made s (ap (λ (r : RangeTable). with_table r s)
-        (cut_none s.ranges s.count T a e p q h ep eq [] s.ranges k (both_ranged Empty Empty)
+        (cut_none s.ranges s.count T a e p q h ep eq [] s.ranges k (both_ranged None None)
         (unspliced s p T.full T.few (omega (arith, met_order s.ranges s.count T a e p q h ep eq)) blank)))

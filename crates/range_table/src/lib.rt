@@ -1,4 +1,5 @@
-// THE TABLE OF RANGES OF A STORE: the searches in it, and a range put over its span or pages cut out of it, in place.
+// THE TABLE OF RANGES OF A STORE: the searches in it, and a range put over its span or pages cut out of it, in place. By hand: some ask for
+// a table in order, and some for a bound of its count alone: a type for both would ask more.
 #![tactic(auto)]
 
 ghost use Rattle.std.specs.Prelude.{◌≡◌, [], ◌+◌, ◌-◌, ◌^◌, ◌≤◌, ◌<◌, length};
@@ -12,7 +13,7 @@ ghost use Rattle.range_table.specs.Made.{spliced_in};
 ghost use Rattle.range_table.specs.Rows.{Held};
 
 use store::Store;
-use table::{Found, PageRange, Piece, back_of, front_of, in_window, number, zero_range};
+use table::PageRange;
 
 // How many ranges begin before page g of the line, by halving.
 pub fn starts_before(s: &Store, g: usize) -> usize
@@ -46,15 +47,15 @@ pub fn ends_by(s: &Store, a: usize) -> usize
 }
 
 // The place of the range that covers page g of the line.
-pub fn covering(s: &Store, g: usize) -> Found
+pub fn covering(s: &Store, g: usize) -> Option<usize>
     requires { (Table s.now.ranges s.now.count) × (g + 1 < 2 ^ 64) }
     ensures { result ≡ covering_at g (ranged_of (used s.now)) }
 {
     let n = starts_before(s, g + 1);
     if 0 < n && g < s.ranges[n - 1].end() {
-        return Found::At(n - 1);
+        return Some(n - 1);
     }
-    Found::Missing
+    None
 }
 
 // How many ranges hold a backing.
@@ -64,7 +65,7 @@ pub fn holder_count(s: &Store, b: u32) -> usize
 {
     s.ranges[..s.count]
         .iter()
-        .filter(|r| number(r.backing) == b)
+        .filter(|r| r.backing.number() == b)
         .count()
 }
 
@@ -73,7 +74,7 @@ pub fn has_window(s: &Store, b: u32, i: u32) -> bool
     requires { s.now.count ≤ 512 }
     ensures { result ≡ named b i (ranges_of (used s.now)) }
 {
-    s.ranges[..s.count].iter().any(|r| in_window(*r, b, i))
+    s.ranges[..s.count].iter().any(|r| r.in_window(b, i))
 }
 
 // The numbers up to 512 that a range holds are marked; none is before.
@@ -82,7 +83,7 @@ fn mark(ranges: &[PageRange], held: &mut [bool; 513])
     ensures { Held (ranges_of ranges.now) held.new }
 {
     for r in ranges {
-        let b = number(r.backing) as usize;
+        let b = r.backing.number() as usize;
         if b < 513 {
             held[b] = true;
         }
@@ -115,31 +116,35 @@ pub fn shift(s: &mut Store, from: usize, to: usize)
         s.ranges.copy_within(from..old, to);
     }
     s.count = to + (old - from);
-    s.ranges[s.count.min(old)..old].fill(zero_range());
+    s.ranges[s.count.min(old)..old].fill(PageRange::ZERO);
 }
 
 // How many rows a part is.
-fn width(q: Piece) -> usize
+fn width(q: Option<PageRange>) -> usize
     ensures { result ≡ length (rows_of q) }
 {
-    match q {
-        Piece::Empty => 0,
-        Piece::Part(_) => 1,
-    }
+    q.is_some() as usize
 }
 
 // A part written as row `at`, if it is one.
-fn lay(s: &mut Store, at: usize, q: Piece)
+fn lay(s: &mut Store, at: usize, q: Option<PageRange>)
     requires { at + length (rows_of q) ≤ 512 }
     ensures { s.new ≡ with_rows at (rows_of q) s.old }
 {
-    if let Piece::Part(r) = q {
+    if let Some(r) = q {
         s.ranges[at] = r;
     }
 }
 
 // The rows from p up to q replaced by three parts, each of them a row or none.
-fn replace(s: &mut Store, p: usize, q: usize, before: Piece, middle: Piece, after: Piece)
+fn replace(
+    s: &mut Store,
+    p: usize,
+    q: usize,
+    before: Option<PageRange>,
+    middle: Option<PageRange>,
+    after: Option<PageRange>,
+)
     requires rows { (s.old.count ≤ 512) × (p ≤ q) × (q ≤ s.old.count) × (s.old.count + length (parts_made before middle after) ≤ 512 + (q - p)) }
     requires blank { Blank s.old }
     ensures { s.new ≡ spliced_in s.old p (q - p) (parts_made before middle after) }
@@ -163,9 +168,9 @@ pub fn put_range(s: &mut Store, n: PageRange)
     let p = ends_by(s, a);
     let q = starts_before(s, e);
     if p < q {
-        let before = front_of(s.ranges[p], a);
-        let after = back_of(s.ranges[q - 1], e);
-        replace(s, p, q, before, Piece::Part(n), after);
+        let before = s.ranges[p].front(a);
+        let after = (s.ranges[q - 1]).back(e);
+        replace(s, p, q, before, Some(n), after);
         return;
     }
     shift(s, p, p + 1);
@@ -181,8 +186,8 @@ pub fn cut_range(s: &mut Store, a: usize, e: usize)
     let p = ends_by(s, a);
     let q = starts_before(s, e);
     if p < q {
-        let before = front_of(s.ranges[p], a);
-        let after = back_of(s.ranges[q - 1], e);
-        replace(s, p, q, before, Piece::Empty, after);
+        let before = s.ranges[p].front(a);
+        let after = (s.ranges[q - 1]).back(e);
+        replace(s, p, q, before, None, after);
     }
 }

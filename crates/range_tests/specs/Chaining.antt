@@ -2,7 +2,7 @@
 use Rattle.std.specs.Prelude.{◌≡◌, ℕ, ◌+◌, ◌≤◌, ◌<◌, get_or, length, replicate, set}
 use Rattle.std.proofs.Common.{◌∙◌, not-suc-le-zero, arith, length-set}
 use Rattle.std.proofs.lemmas.List.{get_or-replicate, length-replicate}
-use Rattle.charts.specs.declared.Chains.{Chains}
+use Rattle.chains.specs.declared.Chains.{Chains}
 use Rattle.chains.specs.Chains.{Chained, chained_next, in_chain, last_below, last_le}
 
 -- the chains of the first n entries, entry k being in chain c k, in arrays of 1,024 numbers

@@ -1,7 +1,7 @@
 // The tests of the table of ranges that store/specs/Sound.antt has. Any store may come in: no sum here is too large.
 #![tactic(auto)]
 
-ghost use Rattle.std.specs.Prelude.{◌≡◌, ◌↔◌, true, ◌&&◌, ◌+◌, ◌≤◌, ◌<◌, leb, length, replicate, IsTrue};
+ghost use Rattle.std.specs.Prelude.{◌≡◌, true, ◌&&◌, ◌+◌, ◌≤◌, ◌<◌, leb, length, replicate};
 ghost use Rattle.std.specs.List.{list_all};
 ghost use Rattle.lists.specs.Every.{all_below};
 ghost use Rattle.chains.specs.Chains.{Linked};
@@ -13,7 +13,7 @@ ghost use Rattle.range_tests.specs.Slots.{slots?};
 ghost use Rattle.store.specs.Abs.{live_bit};
 ghost use Rattle.store.specs.Sound.{alike, zero?};
 
-use charts::Chains;
+use chains::Chains;
 use page::PageNumber;
 use store::Store;
 use table::{BackingPages, PageRange};
@@ -44,22 +44,11 @@ fn lies(r: &PageRange, live: u32, low: usize) -> bool
         && low <= r.object as usize * PageNumber::COUNT + r.start.0
 }
 
-// "unused slots are zero": whether a slot is.
-fn is_zero(r: &PageRange) -> bool
-    ensures { result ≡ zero? r.now }
-{
-    r.object == 0
-        && r.start.0 == 0
-        && r.length == 0
-        && r.offset == 0
-        && matches!(r.backing, BackingPages::Nothing)
-}
-
-// The same of all slots of a part of the table.
+// "unused slots are zero": whether all slots of a part of the table are.
 fn all_zero(slots: &[PageRange]) -> bool
     ensures { result ≡ list_all zero? slots.now }
 {
-    slots.iter().all(|r| is_zero(r))
+    slots.iter().all(|r| *r == PageRange::ZERO)
 }
 
 // Ranges lie as they should: each begins on the line of all pages at or after the end of the one before it. "overlaps no other of its object"; "Ranges stand in the table by
@@ -91,7 +80,7 @@ pub fn slots(s: &Store) -> bool
 }
 
 // Whether the backing fits the range's length and offset: "`Nothing` stands only in unused slots"; "A `Single` range has length 1 and offset 0"; "A `Many` range has
-// offset + length at most 1,048,576".
+// offset + length at most 1,048,576". By hand: fields are held against bounds, and not against those of another range.
 fn fits(r: &PageRange) -> bool
     ensures { result ≡ fitting? r.now }
 {
@@ -113,18 +102,6 @@ fn same_kind(a: BackingPages, b: BackingPages) -> bool
     }
 }
 
-// Two backings are one. by hand: `BackingPages` has no `PartialEq` yet.
-fn same(a: BackingPages, b: BackingPages) -> bool
-    ensures { IsTrue result ↔ (a ≡ b) }
-{
-    match (a, b) {
-        (BackingPages::Nothing, BackingPages::Nothing) => true,
-        (BackingPages::Single(m), BackingPages::Single(n)) => m == n,
-        (BackingPages::Many(m), BackingPages::Many(n)) => m == n,
-        _ => false,
-    }
-}
-
 // The backing of range i agrees with that of every range before it, where those agree: a walk along its chain, to the first of its own backing.
 fn agrees(s: &Store, chains: &Chains, i: usize) -> bool
     requires in_table { i < 512 }
@@ -134,9 +111,10 @@ fn agrees(s: &Store, chains: &Chains, i: usize) -> bool
 {
     let backing = s.ranges[i].backing;
     let mut link = chains.next[i] as usize;
+    // by hand: a chain is of indices, since memory is fixed
     while 0 < link {
         let met = s.ranges[link - 1].backing;
-        if same(met, backing) {
+        if met == backing {
             return true;
         }
         if !same_kind(met, backing) {
@@ -160,7 +138,7 @@ pub fn chain_ranges(s: &Store, chains: &mut Chains) -> bool
         if !fits(r) {
             return false;
         }
-        chains.put(charts::chain_by(table::number(r.backing)), i);
+        chains.put(charts::chain_by(r.backing.number()), i);
         if !agrees(s, chains, i) {
             return false;
         }

@@ -1,9 +1,8 @@
 -- THE LAW OF WHOLE PAGES, one fact about any span: after the parts of a span are put over a destination, each of its pages is at the slot of its source
 -- page, if that is covered, and else where it was; every other page is where it was.
-use Rattle.std.specs.Prelude.{◌≡◌, ◌⊎◌}
+use Rattle.std.specs.Prelude.{◌≡◌, ◌⊎◌, Some}
 use Rattle.std.proofs.Math.Path.{refl, ap}
 use Rattle.std.proofs.Common.{sym, ◌∙◌, ⊎_elim, arith}
-use Rattle.std.proofs.Math.Option.{some}
 use Rattle.std.proofs.Math.Logic.{inl, inr}
 use mathlib.Core.List.{List, [], ◌∷◌, map}
 use Prim.Native.Nat.{ℕ, ◌+◌, ◌-◌, ◌≤◌, ◌<◌, min, max}
@@ -36,12 +35,12 @@ module _ (a o q b t : ℕ) (r : Range) (rs : List Range) (ab : a ≤ b) (rb : fr
       put_other n g rs
       (⊎_elim (λ (l : g < line o q + (b - a)). inl (rw begins l)) (λ (l : line o q + (t - a) ≤ g). inr (rw ends l)) x)
 
-  one_in : (g : ℕ) → line o q ≤ g → b ≤ source a o q g → source a o q g < t → slot_at g (put n rs) ≡ some (slot_in (source a o q g) r)
+  one_in : (g : ℕ) → line o q ≤ g → b ≤ source a o q g → source a o q g < t → slot_at g (put n rs) ≡ Some (slot_in (source a o q g) r)
   one_in g l lo hi =
       let x : from n ≤ g = rw begins (omega arith) in
       let y : g < upto n = rw ends (omega arith) in
       let z : (r.offset + (b - from r)) + (g - from n) ≡ r.offset + (source a o q g - from r) = rw begins (same_index r.offset a b (line o q) g (from r) ab rb l lo) in
-      put_hit n g rs x y ∙ ap (λ j. some (record { inside = r.backing; index = j })) z
+      put_hit n g rs x y ∙ ap (λ j. Some (record { inside = r.backing; index = j })) z
 
 module _ (a o q e : ℕ) where
   -- outside the span

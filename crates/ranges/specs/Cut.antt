@@ -1,7 +1,6 @@
 -- The laws of cutting pages out of a table of ranges.
-use Rattle.std.specs.Prelude.{◌≡◌, refl, List, [], ◌∷◌, ◌++◌, ℕ, ◌+◌, ◌-◌, ◌≤◌, ◌<◌, min}
+use Rattle.std.specs.Prelude.{◌≡◌, refl, List, [], ◌∷◌, ◌++◌, ℕ, ◌+◌, ◌-◌, ◌≤◌, ◌<◌, min, Some, None}
 use Rattle.std.proofs.Common.{◌∙◌, ap, arith, lt-ltb, le-ltb, le-leb}
-use Rattle.std.proofs.Math.Option.{none, some}
 use Rattle.std.proofs.lemmas.Bool.{lt-leb}
 use Rattle.lists.specs.Test.{by-lt}
 use Rattle.ranges.specs.Range.{Range, Ranged, from, upto, skip, keep, front, back, carve, slot_in, slot_at, Rising}
@@ -36,7 +35,7 @@ pub back_none : {B : Type 0} (e : ℕ) (r : Ranged B) → upto r ≤ e → back 
 unfolding back
 back_none e r h = rw (le-ltb e (upto r) h)
 
-pub slot_hit : (g : ℕ) (r : Range) (rs : List Range) → from r ≤ g → g < upto r → slot_at g (r ∷ rs) ≡ some (slot_in g r)
+pub slot_hit : (g : ℕ) (r : Range) (rs : List Range) → from r ≤ g → g < upto r → slot_at g (r ∷ rs) ≡ Some (slot_in g r)
 unfolding slot_at
 slot_hit g r rs h k = rw (le-leb (from r) g h, lt-ltb g (upto r) k)
 
@@ -90,7 +89,7 @@ unfolding slot_at
 slot_cons g r xs ys h = rw h
 
 -- THE LAW OF THE CUT. No page of the cut is covered; every other page has the backing and the index that it had.
-pub carve_inside : (a e g : ℕ) (rs : List Range) → a ≤ g → g < e → slot_at g (carve a e rs) ≡ none
+pub carve_inside : (a e g : ℕ) (rs : List Range) → a ≤ g → g < e → slot_at g (carve a e rs) ≡ None
 unfolding carve slot_at
 carve_inside a e g [] h k = refl
 carve_inside a e g (r ∷ rs) h k = one_inside a e g r (carve a e rs) h k ∙ carve_inside a e g rs h k

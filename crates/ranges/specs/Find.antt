@@ -1,9 +1,8 @@
 -- Which range a page is in, the range before a page, and whose window an index is in.
-use Rattle.std.specs.Prelude.{◌≡◌, refl, true, ℕ, ◌+◌, ◌-◌, ◌≤◌, ◌<◌, ltb, leb, eqb}
+use Rattle.std.specs.Prelude.{◌≡◌, refl, true, ℕ, ◌+◌, ◌-◌, ◌≤◌, ◌<◌, ltb, leb, eqb, Option, Some, None}
 use Rattle.std.proofs.Common.{◌∙◌, ⊎_elim, arith, ltb-true, ltb-false, leb-true, eqb-true, lt-ltb, le-leb, eq-eqb}
 use Rattle.std.proofs.lemmas.Bool.{false≢true}
 use Rattle.std.proofs.Math.Bool.{or-true}
-use Rattle.std.proofs.Math.Option.{Option, none, some}
 use mathlib.Core.List.{List, [], ◌∷◌, Memᴰ}
 use Rattle.lists.specs.Test.{by-test, and_left, and_right}
 use Rattle.ranges.specs.Range.{Range, Ranged, Slot, from, upto, slot_in, slot_at, Rising}
@@ -18,13 +17,13 @@ pub record Found (g : ℕ) (rs : List Range) (s : Slot) : Type 0 where
   pub high : g < upto r
   pub is : s ≡ slot_in g r
 
-pub found : (g : ℕ) (rs : List Range) (s : Slot) → slot_at g rs ≡ some s → Found g rs s
+pub found : (g : ℕ) (rs : List Range) (s : Slot) → slot_at g rs ≡ Some s → Found g rs s
 unfolding slot_at
 found g [] s e = absurd (let z : ◌≡◌ {A = ℕ} 0 1 = cc in omega arith)
 found g (r ∷ rs) s e =
     by-test (leb (from r) g)
     (λ t. by-test (ltb g (upto r))
-    (λ u. let e' : some (slot_in g r) ≡ some s = rw (t, u) at e in
+    (λ u. let e' : Some (slot_in g r) ≡ Some s = rw (t, u) at e in
     record { r = r; mem = mathlib.Core.List.Memᴰ.head refl; low = leb-true (from r) g t; high = ltb-true g (upto r) u; is = cc })
     (λ u. more (found g rs s (rw (t, u) at e))))
     (λ t. more (found g rs s (rw t at e)))
@@ -40,7 +39,7 @@ rising_low low r [] s m = absurd (mathlib.Core.List.Memᴰ.not-nil m)
 rising_low low r (q ∷ rs) s m =
     ⊎_elim (λ e. rw e s.0) (λ k. omega (arith, rising_low (upto q) r rs s.2 k, s.0)) (mathlib.Core.List.Memᴰ.cases_cons m)
 
-pub slot_mem : (low g : ℕ) (r : Range) (rs : List Range) → Rising low rs → Memᴰ r rs → from r ≤ g → g < upto r → slot_at g rs ≡ some (slot_in g r)
+pub slot_mem : (low g : ℕ) (r : Range) (rs : List Range) → Rising low rs → Memᴰ r rs → from r ≤ g → g < upto r → slot_at g rs ≡ Some (slot_in g r)
 unfolding Rising
 slot_mem low g r [] s m l u = absurd (mathlib.Core.List.Memᴰ.not-nil m)
 slot_mem low g r (q ∷ rs) s m l u =
@@ -50,7 +49,7 @@ slot_mem low g r (q ∷ rs) s m l u =
     (mathlib.Core.List.Memᴰ.cases_cons m)
 
 -- below its first range a table covers nothing
-pub below_all : (low g : ℕ) (rs : List Range) → Rising low rs → g < low → slot_at g rs ≡ none
+pub below_all : (low g : ℕ) (rs : List Range) → Rising low rs → g < low → slot_at g rs ≡ None
 unfolding Rising slot_at
 below_all low g [] s h = refl
 below_all low g (q ∷ rs) s h = slot_low g q rs (omega (arith, s.0)) ∙ below_all (upto q) g rs s.2 (omega (arith, s.0))
@@ -65,7 +64,7 @@ named_mem b i (q ∷ rs) r m e l h =
     (λ k. rw (named_mem b i rs r k e l h) (or-true (window b i q)))
     (mathlib.Core.List.Memᴰ.cases_cons m)
 
-pub slot_named : (g : ℕ) (rs : List Range) (s : Slot) → slot_at g rs ≡ some s → named s.inside s.index rs ≡ true
+pub slot_named : (g : ℕ) (rs : List Range) (s : Slot) → slot_at g rs ≡ Some s → named s.inside s.index rs ≡ true
 slot_named g rs s e =
     let f : Found g rs s = found g rs s e in
     rw f.is (named_mem f.r.backing (f.r.offset + (g - from f.r)) rs f.r f.mem refl (omega arith) (omega (arith, f.low, f.high)))
@@ -96,32 +95,32 @@ named_in b i (r ∷ rs) e =
     more n = record { r = n.r; mem = mathlib.Core.List.Memᴰ.tail n.mem; backing = n.backing; low = n.low; high = n.high }
 
 -- the range before a page
-pub previous_mem : (g : ℕ) (rs : List Range) (r : Range) → previous g rs ≡ some r → Memᴰ r rs
+pub previous_mem : (g : ℕ) (rs : List Range) (r : Range) → previous g rs ≡ Some r → Memᴰ r rs
 unfolding previous
 previous_mem g [] r e = absurd (let z : ◌≡◌ {A = ℕ} 0 1 = cc in omega arith)
 previous_mem g (q ∷ rs) r e =
     by-test (ltb g (from q))
-    (λ t. absurd (let y : none ≡ some r = rw t at e in let z : ◌≡◌ {A = ℕ} 0 1 = cc in omega arith))
+    (λ t. absurd (let y : None ≡ Some r = rw t at e in let z : ◌≡◌ {A = ℕ} 0 1 = cc in omega arith))
     (λ t. go (λ f. previous_mem g rs r f) (previous g rs) refl (rw t at e))
   where
-    go : (previous g rs ≡ some r → Memᴰ r rs) → (o : Option Range) → previous g rs ≡ o → some_or o q ≡ some r → Memᴰ r (q ∷ rs)
-    go ih none f h = mathlib.Core.List.Memᴰ.head {x = q} (cc)
-    go ih (some x) f h = mathlib.Core.List.Memᴰ.tail (ih (f ∙ h))
+    go : (previous g rs ≡ Some r → Memᴰ r rs) → (o : Option Range) → previous g rs ≡ o → some_or o q ≡ Some r → Memᴰ r (q ∷ rs)
+    go ih None f h = mathlib.Core.List.Memᴰ.head {x = q} (cc)
+    go ih (Some x) f h = mathlib.Core.List.Memᴰ.tail (ih (f ∙ h))
 
-pub previous_low : (g : ℕ) (rs : List Range) (r : Range) → previous g rs ≡ some r → from r ≤ g
+pub previous_low : (g : ℕ) (rs : List Range) (r : Range) → previous g rs ≡ Some r → from r ≤ g
 unfolding previous
 previous_low g [] r e = absurd (let z : ◌≡◌ {A = ℕ} 0 1 = cc in omega arith)
 previous_low g (q ∷ rs) r e =
     by-test (ltb g (from q))
-    (λ t. absurd (let y : none ≡ some r = rw t at e in let z : ◌≡◌ {A = ℕ} 0 1 = cc in omega arith))
+    (λ t. absurd (let y : None ≡ Some r = rw t at e in let z : ◌≡◌ {A = ℕ} 0 1 = cc in omega arith))
     (λ t. go (λ f. previous_low g rs r f) (ltb-false g (from q) t) (previous g rs) refl (rw t at e))
   where
-    go : (previous g rs ≡ some r → from r ≤ g) → from q ≤ g → (o : Option Range) → previous g rs ≡ o → some_or o q ≡ some r → from r ≤ g
-    go ih l none f h = let z : q ≡ r = cc in rw (← z) l
-    go ih l (some x) f h = ih (f ∙ h)
+    go : (previous g rs ≡ Some r → from r ≤ g) → from q ≤ g → (o : Option Range) → previous g rs ≡ o → some_or o q ≡ Some r → from r ≤ g
+    go ih l None f h = let z : q ≡ r = cc in rw (← z) l
+    go ih l (Some x) f h = ih (f ∙ h)
 
 -- from the end of the range before a page up to the page nothing is covered
-pub previous_none : (low g h : ℕ) (rs : List Range) → Rising low rs → previous g rs ≡ none → h ≤ g → slot_at h rs ≡ none
+pub previous_none : (low g h : ℕ) (rs : List Range) → Rising low rs → previous g rs ≡ None → h ≤ g → slot_at h rs ≡ None
 unfolding Rising slot_at previous
 previous_none low g h [] s e l = refl
 previous_none low g h (q ∷ rs) s e l =
@@ -129,22 +128,22 @@ previous_none low g h (q ∷ rs) s e l =
     (λ t. let z : g < from q = ltb-true g (from q) t in slot_low h q rs (omega arith) ∙ below_all (upto q) h rs s.2 (omega arith))
     (λ t. absurd (go (previous g rs) (rw t at e)))
   where
-    go : (o : Option Range) → some_or o q ≡ none → ⊥
-    go none f = let z : ◌≡◌ {A = ℕ} 0 1 = cc in omega arith
-    go (some x) f = let z : ◌≡◌ {A = ℕ} 0 1 = cc in omega arith
+    go : (o : Option Range) → some_or o q ≡ None → ⊥
+    go None f = let z : ◌≡◌ {A = ℕ} 0 1 = cc in omega arith
+    go (Some x) f = let z : ◌≡◌ {A = ℕ} 0 1 = cc in omega arith
 
-pub previous_gap : (low g h : ℕ) (r : Range) (rs : List Range) → Rising low rs → previous g rs ≡ some r → upto r ≤ h → h ≤ g → slot_at h rs ≡ none
+pub previous_gap : (low g h : ℕ) (r : Range) (rs : List Range) → Rising low rs → previous g rs ≡ Some r → upto r ≤ h → h ≤ g → slot_at h rs ≡ None
 unfolding Rising slot_at previous
 previous_gap low g h r [] s e l u = refl
 previous_gap low g h r (q ∷ rs) s e l u =
     by-test (ltb g (from q))
-    (λ t. absurd (let y : none ≡ some r = rw t at e in let z : ◌≡◌ {A = ℕ} 0 1 = cc in omega arith))
+    (λ t. absurd (let y : None ≡ Some r = rw t at e in let z : ◌≡◌ {A = ℕ} 0 1 = cc in omega arith))
     (λ t. go (λ f. previous_gap (upto q) g h r rs s.2 f l u) (λ f. previous_mem g rs r f) (previous g rs) refl (rw t at e))
   where
-    go : (previous g rs ≡ some r → slot_at h rs ≡ none) → (previous g rs ≡ some r → Memᴰ r rs) → (o : Option Range) → previous g rs ≡ o → some_or o q ≡ some r → slot_at h (q ∷ rs) ≡ none
-    go ih mem none f k =
+    go : (previous g rs ≡ Some r → slot_at h rs ≡ None) → (previous g rs ≡ Some r → Memᴰ r rs) → (o : Option Range) → previous g rs ≡ o → some_or o q ≡ Some r → slot_at h (q ∷ rs) ≡ None
+    go ih mem None f k =
         let z : q ≡ r = cc in
         slot_high h q rs (rw z l) ∙ previous_none (upto q) g h rs s.2 f u
-    go ih mem (some x) f k =
+    go ih mem (Some x) f k =
         let m : Memᴰ r rs = mem (f ∙ k) in
         slot_high h q rs (omega (arith, rising_low (upto q) r rs s.2 m)) ∙ ih (f ∙ k)

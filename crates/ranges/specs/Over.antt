@@ -1,7 +1,6 @@
 -- A range put over its span: what stands there, what stays, and which ranges the table then has.
-use Rattle.std.specs.Prelude.{◌≡◌, ◌⊎◌, ℕ, ◌-◌, ◌≤◌, ◌<◌}
+use Rattle.std.specs.Prelude.{◌≡◌, ◌⊎◌, ℕ, ◌-◌, ◌≤◌, ◌<◌, Some}
 use Rattle.std.proofs.Common.{⊎_elim, arith}
-use Rattle.std.proofs.Math.Option.{some}
 use mathlib.Core.List.Memᴰ
 use mathlib.Core.List.{List, [], ◌∷◌, ◌++◌, Memᴰ}
 use Rattle.lists.specs.Test.{by-lt}
@@ -15,7 +14,7 @@ unfolding put
 put_rising n rs h s =
     insert_rising n 0 (carve (from n) (upto n) rs) (omega arith) h (carve_clear (from n) (upto n) rs (omega arith)) (carve_rising (from n) (upto n) 0 rs (omega arith) s)
 
-pub put_hit : (n : Range) (g : ℕ) (rs : List Range) → from n ≤ g → g < upto n → slot_at g (put n rs) ≡ some (slot_in g n)
+pub put_hit : (n : Range) (g : ℕ) (rs : List Range) → from n ≤ g → g < upto n → slot_at g (put n rs) ≡ Some (slot_in g n)
 unfolding put
 put_hit n g rs l h = insert_hit n g (carve (from n) (upto n) rs) l h (carve_clear (from n) (upto n) rs (omega arith))
 

@@ -1,8 +1,7 @@
 -- What the law of whole pages speaks of: ranges put in one after another, a range's part in a span, the source page of a page. The law itself is in
 -- proofs/Parts.antt.
-use Rattle.std.specs.Prelude.{◌≡◌}
+use Rattle.std.specs.Prelude.{◌≡◌, Option, Some, None}
 use Rattle.std.proofs.Common.{lt-ltb, le-ltb}
-use Rattle.std.proofs.Math.Option.{Option, none, some}
 use mathlib.Core.List.{List, [], ◌∷◌}
 use Prim.Native.Nat.{ℕ, ◌+◌, ◌-◌, ◌≤◌, ◌<◌, min, max}
 use Rattle.ranges.specs.Range.{Range, Slot, line, from, upto, keep, skip, put}
@@ -14,8 +13,8 @@ put_all [] rs = rs
 put_all (n ∷ ns) rs = put_all ns (put n rs)
 
 abbrev pub or_else : Option Slot → Option Slot → Option Slot
-or_else none t = t
-or_else (some s) t = some s
+or_else None t = t
+or_else (Some s) t = Some s
 
 pub part_some : (a e : ℕ) (r : Range) → max a (from r) < min e (upto r)
     → part a e r ≡ keep (min e (upto r) - max a (from r)) (skip (max a (from r) - from r) r) ∷ []

@@ -1,7 +1,6 @@
 -- The laws of putting a range into a gap of a table, and the table's form of a cut.
-use Rattle.std.specs.Prelude.{◌≡◌, refl, ◌⊎◌, length, get_or, take, drop}
+use Rattle.std.specs.Prelude.{◌≡◌, refl, ◌⊎◌, length, get_or, take, drop, Some}
 use Rattle.std.proofs.Common.{ap, sym, inl, inr, ⊎_elim, add-zero, not-suc-le-zero, lt-ltb, le-ltb}
-use Rattle.std.proofs.Math.Option.{some}
 use mathlib.Core.List.{List, [], ◌∷◌, ◌++◌, append_assoc, append-nil}
 use Prim.Native.Nat.{ℕ, zero, suc, ◌-◌, ◌≤◌, ◌<◌, suc-le-suc}
 use native.Mathlib.Omega.{arith}
@@ -44,7 +43,7 @@ insert_rising n low (r ∷ rs) l k c s =
     c.0
 
 -- the pages of the range put in, and every other page
-pub insert_hit : (n : Range) (g : ℕ) (rs : List Range) → from n ≤ g → g < upto n → Clear (from n) (upto n) rs → slot_at g (insert n rs) ≡ some (slot_in g n)
+pub insert_hit : (n : Range) (g : ℕ) (rs : List Range) → from n ≤ g → g < upto n → Clear (from n) (upto n) rs → slot_at g (insert n rs) ≡ Some (slot_in g n)
 unfolding Clear insert
 insert_hit n g [] l k c = slot_hit g n [] l k
 insert_hit n g (r ∷ rs) l k c =

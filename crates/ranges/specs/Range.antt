@@ -1,6 +1,5 @@
 -- A range of pages, its cuts, and a table of ranges.
-use Rattle.std.specs.Prelude.{Bool, ◌&&◌, ◌⊎◌, List, [], ◌∷◌, ◌++◌, ℕ, suc, ◌+◌, ◌-◌, ◌*◌, ◌≤◌, ◌<◌, min, ltb, leb}
-use Rattle.std.proofs.Math.Option.{Option, none, some}
+use Rattle.std.specs.Prelude.{Bool, ◌&&◌, ◌⊎◌, List, [], ◌∷◌, ◌++◌, ℕ, suc, ◌+◌, ◌-◌, ◌*◌, ◌≤◌, ◌<◌, min, ltb, leb, Option, Some, None}
 use Rattle.lists.specs.Test.{pick}
 
 -- the pages from `start` on of an object, `len` of them; the backing that has their bytes, and the index in it of the first page
@@ -76,8 +75,8 @@ abbrev pub slot_in : ℕ → Range → Slot
 slot_in g r = record { inside = r.backing; index = r.offset + (g - from r) }
 
 unfoldable pub slot_at : ℕ → List Range → Option Slot
-slot_at g [] = none
-slot_at g (r ∷ rs) = pick (covers g r) (some (slot_in g r)) (slot_at g rs)
+slot_at g [] = None
+slot_at g (r ∷ rs) = pick (covers g r) (Some (slot_in g r)) (slot_at g rs)
 
 -- "has length at least 1", "overlaps no other of its object", "by object, then start": each range begins at or after the end of the one before
 -- it, the first at or after the line's page `low`

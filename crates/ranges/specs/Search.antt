@@ -1,8 +1,7 @@
 -- Searching a table: how many ranges begin before a page. The range that covers a page, or the last one before it, is found by it.
-use Rattle.std.specs.Prelude.{◌≡◌, ltb, leb, length, get_or}
+use Rattle.std.specs.Prelude.{◌≡◌, ltb, leb, length, get_or, Option, Some, None}
 use Rattle.std.proofs.Math.Path.{refl}
 use Rattle.std.proofs.Common.{ap, ◌∙◌, not-suc-le-zero, le_refl, arith}
-use Rattle.std.proofs.Math.Option.{Option, none, some}
 use mathlib.Core.List.{List, [], ◌∷◌}
 use Prim.Native.Nat.{ℕ, zero, suc, ◌≤◌, ◌<◌, zero-le}
 use borrow.Author.Tests.{lt-ltb, le-ltb, le-leb, lt-leb}
@@ -137,8 +136,8 @@ module _ {B : Type 0} (d : Ranged B) where
 
   -- the last of the first n ranges
   abbrev pub last_of : ℕ → List (Ranged B) → Option (Ranged B)
-  last_of zero rs = none
-  last_of (suc n) rs = some (get_or rs n d)
+  last_of zero rs = None
+  last_of (suc n) rs = Some (get_or rs n d)
 
   -- "the previous range" is the last that begins before the next page
   pub previous_is : (g : ℕ) (rs : List (Ranged B)) → previous g rs ≡ last_of (starts_before (suc g) rs) rs
@@ -150,16 +149,16 @@ module _ {B : Type 0} (d : Ranged B) where
       (λ l. rw (le-ltb g (from r) l, lt-ltb (from r) (suc g) (omega arith))
       (ap (λ o. some_or o r) (previous_is g rs) ∙ go (starts_before (suc g) rs)))
     where
-      go : (n : ℕ) → some_or (last_of n rs) r ≡ some (get_or (r ∷ rs) n d)
+      go : (n : ℕ) → some_or (last_of n rs) r ≡ Some (get_or (r ∷ rs) n d)
       go zero = refl
       go (suc n) = refl
 
 -- where a page is kept, by the previous range
 abbrev pub slot_of : ℕ → Option Range → Option Slot
-slot_of g none = none
-slot_of g (some r) = pick (covers g r) (some (slot_in g r)) none
+slot_of g None = None
+slot_of g (Some r) = pick (covers g r) (Some (slot_in g r)) None
 
-previous_low_none : (g low : ℕ) (rs : List Range) → Rising low rs → g < low → previous g rs ≡ none
+previous_low_none : (g low : ℕ) (rs : List Range) → Rising low rs → g < low → previous g rs ≡ None
 unfolding previous Rising
 previous_low_none g low [] s h = refl
 previous_low_none g low (r ∷ rs) s h = rw (lt-ltb g (from r) (omega (arith, s.0)))
@@ -176,5 +175,5 @@ slot_previous g low (r ∷ rs) s =
     (λ u. rw (le-leb (from r) g l, le-ltb g (upto r) u) (slot_previous g (upto r) rs s.2 ∙ go l u (previous g rs)))))
   where
     go : from r ≤ g → upto r ≤ g → (o : Option Range) → slot_of g o ≡ slot_of g (some_or o r)
-    go l u none = rw (le-leb (from r) g l, le-ltb g (upto r) u)
-    go l u (some q) = refl
+    go l u None = rw (le-leb (from r) g l, le-ltb g (upto r) u)
+    go l u (Some q) = refl

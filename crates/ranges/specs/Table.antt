@@ -1,6 +1,5 @@
 -- What is read off a table of ranges: who holds a backing, a new backing's number, windows, the range before a page, the parts of a span.
-use Rattle.std.specs.Prelude.{Bool, false, ◌&&◌, ◌||◌, List, [], ◌∷◌, ◌++◌, ℕ, zero, suc, ◌+◌, ◌-◌, min, max, ltb, leb, eqb, length}
-use Rattle.std.proofs.Math.Option.{Option, none, some}
+use Rattle.std.specs.Prelude.{Bool, false, ◌&&◌, ◌||◌, List, [], ◌∷◌, ◌++◌, ℕ, zero, suc, ◌+◌, ◌-◌, min, max, ltb, leb, eqb, length, Option, Some, None}
 use Rattle.lists.specs.Test.{pick}
 use Rattle.ranges.specs.Range.{Range, Ranged, from, upto, keep, skip}
 
@@ -26,13 +25,13 @@ named b i [] = false
 named b i (r ∷ rs) = window b i r || named b i rs
 
 abbrev pub some_or : {B : Type 0} → Option (Ranged B) → Ranged B → Option (Ranged B)
-some_or none r = some r
-some_or (some q) r = some q
+some_or None r = Some r
+some_or (Some q) r = Some q
 
 -- the range that covers the line's page g, or else "the previous range": the last that begins at or before g
 unfoldable pub previous : {B : Type 0} → ℕ → List (Ranged B) → Option (Ranged B)
-previous g [] = none
-previous g (r ∷ rs) = pick (ltb g (from r)) none (some_or (previous g rs) r)
+previous g [] = None
+previous g (r ∷ rs) = pick (ltb g (from r)) None (some_or (previous g rs) r)
 
 -- what a range has of the line's pages from a up to e, as a range; nothing if they do not meet
 unfoldable pub part : ℕ → ℕ → Range → List Range

@@ -1,5 +1,5 @@
 -- A READ, page by page: the part in the first page, then the rest; and the bytes of a page of the store.
-use Rattle.std.specs.Prelude.{◌≡◌, refl, List, [], ◌∷◌, ◌++◌, drop, replicate}
+use Rattle.std.specs.Prelude.{◌≡◌, refl, List, [], ◌∷◌, ◌++◌, drop, replicate, Option, Some, None}
 use Rattle.std.proofs.Math.Path.{ap, sym}
 use Rattle.std.proofs.Common.{ap₂, ◌∙◌, append_assoc, append-nil, add-zero, not-suc-le-zero, length-drop, take_all, eq-eqb}
 use Prim.Native.Nat.{ℕ, zero, suc, ◌+◌, ◌-◌, ◌*◌, ◌/◌, ◌%◌, ◌≤◌, ◌<◌}
@@ -10,8 +10,6 @@ use Rattle.std.proofs.lemmas.List.{length-replicate}
 use Rattle.std.proofs.Math.Seq.{paste}
 use Rattle.std.proofs.lemmas.List.Edits.{take-paste}
 use Rattle.store.specs.declared.Store.{Store}
-use Rattle.look.specs.declared.PageAt.{PageAt}
-use Rattle.look.specs.declared.PageAt.TheVariants.{Absent, Present}
 use Rattle.look.specs.declared.Located.{Located}
 use Rattle.lists.specs.Test.{by-lt}
 use Rattle.lists.specs.Paste.{drop_replicate}
@@ -97,7 +95,7 @@ take_zeros (suc i) (suc j) h = ap (λ z. 0 ∷ z) (take_zeros i j (omega arith))
 -- n bytes stored that are those from place k of page g of the line
 module _ (s : Store) (x : List ℕ) (g : ℕ) (b c : List ℕ) (at k n : ℕ) (fits : k + n ≤ 4096) where
   -- zeros, where the page is absent
-  pub read_absent : located s g ≡ Absent → c ≡ filled b at n 0 → c ≡ paste b at (drop k (page_bytes s x g)) n
+  pub read_absent : located s g ≡ None → c ≡ filled b at n 0 → c ≡ paste b at (drop k (page_bytes s x g)) n
   unfolding filled
   read_absent e f =
       rw e
@@ -105,12 +103,12 @@ module _ (s : Store) (x : List ℕ) (g : ℕ) (b c : List ℕ) (at k n : ℕ) (f
       (take_zeros n n (omega arith) ∙ sym (ap (take n) (drop_replicate k 4096 0) ∙ take_zeros n (4096 - k) (omega arith))))
 
   -- the pool's from place k of its frame, where it is present
-  pub read_present : (l : Located) → located s g ≡ Present l → c ≡ paste b at (drop (l.frame * 4096 + k) x) n → c ≡ paste b at (drop k (page_bytes s x g)) n
+  pub read_present : (l : Located) → located s g ≡ Some l → c ≡ paste b at (drop (l.frame * 4096 + k) x) n → c ≡ paste b at (drop k (page_bytes s x g)) n
   read_present l e f = rw e (f ∙ read_frame 4096 b at x l.frame k n fits)
 
 module _ (s : Store) (T : Table s.ranges s.count) (n : s.frames ≤ length s.places) (x : List ℕ) (pool : length x ≡ s.frames * 4096) where
   -- a present page's frame lies in the pool
-  pub frame_inside : (g : ℕ) (l : Located) → located s g ≡ Present l → l.frame * 4096 + 4096 ≤ length x
+  pub frame_inside : (g : ℕ) (l : Located) → located s g ≡ Some l → l.frame * 4096 + 4096 ≤ length x
   frame_inside g l e =
       let q : line (g / 262144) (g % 262144) ≡ g = omega arith in
       omega (arith, located_below s T n (g / 262144) (g % 262144) l (ap (located s) q ∙ e))
@@ -119,9 +117,9 @@ module _ (s : Store) (T : Table s.ranges s.count) (n : s.frames ≤ length s.pla
   pub page_length : (g : ℕ) → length (page_bytes s x g) ≡ 4096
   page_length g = go (located s g) refl
     where
-      go : (p : PageAt) → located s g ≡ p → length (seen 4096 (page_is x p)) ≡ 4096
-      go Absent e = length-replicate {A = ℕ} 4096 0
-      go (Present l) e = frame_length 4096 x l.frame (frame_inside g l e)
+      go : (p : Option Located) → located s g ≡ p → length (seen 4096 (page_is x p)) ≡ 4096
+      go None e = length-replicate {A = ℕ} 4096 0
+      go (Some l) e = frame_length 4096 x l.frame (frame_inside g l e)
 
   -- the turn, on the store
   page_next : (o y i : ℕ) → 0 < i

@@ -1,10 +1,10 @@
 // WHY A CALL IS TURNED DOWN: for each call of a sound store its row of the table, or none.
 #![tactic(auto)]
 
-ghost use Rattle.std.specs.Prelude.{◌≡◌, List, [], ◌∷◌, ℕ, ◌+◌, ◌≤◌, leb, length, replicate, Some};
+ghost use Rattle.std.specs.Prelude.{◌≡◌, List, [], ◌∷◌, ℕ, ◌+◌, ◌≤◌, leb, length, replicate, true, IfOk, Some};
 ghost use Rattle.book.specs.Book.{new_object, drop_object, add, look_up, show, read, write, copy, shadow, zero_out, lowest, past_end};
 ghost use Rattle.book.specs.Page.{touched};
-ghost use Rattle.store.specs.Sound.{Sized, Sound};
+ghost use Rattle.store.specs.Sound.{sound?, Sized};
 ghost use Rattle.charts.specs.Charts.{FrameChains, RangeChains};
 ghost use Rattle.refusals.specs.Enter.{Tried};
 ghost use Rattle.refusals.specs.Refuse.{no_name, opening, pairing, refusal};
@@ -13,7 +13,8 @@ ghost use Rattle.refusals.specs.Number.{number, number_of, word};
 mod needs;
 
 use charts::Charts;
-use needs::{lacking, lacking_bytes, lacking_copy, lacking_zero, lengths, met_whole};
+use lookup::{Pages, States, lengths};
+use needs::met_whole;
 use page::PageNumber;
 use range_tests::is_live;
 use std::error::Error;
@@ -24,23 +25,23 @@ use store::Store;
 #[derive(Clone, Copy, Debug, PartialEq, Eq)]
 pub enum Refusal {
     // "the store isn't sound"
-    Spoiled,
+    Spoiled = 1,
     // "a lent pool's length differs from frames × 4,096"
-    Pool,
+    Pool = 2,
     // "a name above 31; except at creation of an object, one not live"
-    NoObject,
+    NoObject = 3,
     // "a new object's name is live"
-    Taken,
+    Taken = 4,
     // "source and destination are one object"
-    Same,
+    Same = 5,
     // "offset + length above 1,073,741,824, or a page above 262,143"
-    PastEnd,
+    PastEnd = 6,
     // "shadow copy: source offset or length no multiple of 4,096"
-    NotWhole,
+    NotWhole = 7,
     // "fewer free frames than needed"
-    NoFrame,
+    NoFrame = 8,
     // "fewer free range slots than needed"
-    NoSlot,
+    NoSlot = 9,
 }
 
 impl Refusal {
@@ -48,20 +49,10 @@ impl Refusal {
     pub fn number(self) -> u8
         ensures { result ≡ number self }
     {
-        match self {
-            Refusal::Spoiled => 1,
-            Refusal::Pool => 2,
-            Refusal::NoObject => 3,
-            Refusal::Taken => 4,
-            Refusal::Same => 5,
-            Refusal::PastEnd => 6,
-            Refusal::NotWhole => 7,
-            Refusal::NoFrame => 8,
-            Refusal::NoSlot => 9,
-        }
+        self as u8
     }
 
-    // Its word of the table.
+    // Its word of the table. By hand: each has a word of its own, which no derive knows.
     pub fn word(self) -> &'static str
         ensures { result.now ≡ word self }
     {
@@ -169,15 +160,32 @@ impl Passage {
     }
 }
 
-// THE WAY INTO A CALL. 1: "the store isn't sound". The ranges and frames of a sound store are chained, for what the call does then.
-pub fn enter(s: &Store, charts: &mut Charts) -> Result<(), Refusal>
+// A sound store, as the way into a call gives it.
+#[derive(Clone, Copy)]
+pub struct SoundStore<'a> {
+    pub store: &'a Store,
+    pub ghost sound: { sound? store.now ≡ true },
+}
+
+// The same with its charts: its ranges and frames are chained, for what the call does then.
+#[derive(Clone, Copy)]
+pub struct Entry<'a> {
+    pub sound: SoundStore<'a>,
+    pub charts: &'a Charts,
+    pub ghost framed: { FrameChains sound.store.now.places sound.store.now.frames charts.now.frames },
+    pub ghost held: { RangeChains sound.store.now.ranges sound.store.now.count charts.now.ranges },
+}
+
+// THE WAY INTO A CALL. 1: "the store isn't sound". The ranges and frames of a sound store are chained.
+pub fn enter<'a>(s: &'a Store, charts: &mut Charts) -> Result<SoundStore<'a>, Refusal>
     requires ranges { (charts.old.ranges.heads ≡ replicate 1024 0) × (charts.old.ranges.next ≡ replicate 1024 0) }
     requires frames { (charts.old.frames.heads ≡ replicate 1024 0) × (charts.old.frames.next ≡ replicate 1024 0) }
-    ensures { Tried s.now result charts.new }
+    ensures tried { Tried s.now result charts.new }
+    ensures same { IfOk result (λ sound. sound.store.now ≡ s.now) }
 {
     lengths(s);
     if soundness::examine(s, charts) {
-        return Ok(());
+        return Ok(SoundStore { store: s });
     }
     Err(Refusal::Spoiled)
 }
@@ -202,130 +210,135 @@ fn in_object(page: PageNumber) -> Result<(), Refusal>
     Ok(())
 }
 
-// 2 or 3 of a call that lends a pool and names an object.
-fn opening(s: &Store, pool: usize, object: u32) -> Result<(), Refusal>
-    requires { Sound s.now }
-    ensures number { number_of result ≡ lowest (opening s.now pool object) }
-    ensures sized { Sized s.now }
-{
-    lengths(s);
-    if pool != s.frames * PageNumber::PAGE_SIZE {
-        return Err(Refusal::Pool);
+impl SoundStore<'_> {
+    // 2 or 3 of a call that lends a pool and names an object.
+    fn opening(&self, pool: usize, object: u32) -> Result<(), Refusal>
+        ensures number { number_of result ≡ lowest (opening self.now.store.now pool object) }
+        ensures sized { Sized self.now.store.now }
+    {
+        lengths(self.store);
+        if pool != self.store.frames * PageNumber::PAGE_SIZE {
+            return Err(Refusal::Pool);
+        }
+        named(self.store, object)
     }
-    named(s, object)
-}
 
-// 2, 3, 5 or 6 of a call that lends a pool and names the bytes of a source and of a destination.
-fn pairing(s: &Store, pool: usize, passage: Passage) -> Result<(), Refusal>
-    requires { Sound s.now }
-    ensures number { number_of result ≡ lowest (pairing s.now pool passage.source passage.from passage.object passage.to passage.n) }
-    ensures sized { Sized s.now }
-{
-    opening(s, pool, passage.source)?;
-    named(s, passage.object)?;
-    if passage.source == passage.object {
-        return Err(Refusal::Same);
+    // 2, 3, 5 or 6 of a call that lends a pool and names the bytes of a source and of a destination.
+    fn pairing(&self, pool: usize, passage: Passage) -> Result<(), Refusal>
+        ensures number { number_of result ≡ lowest (pairing self.now.store.now pool passage.source passage.from passage.object passage.to passage.n) }
+        ensures sized { Sized self.now.store.now }
+    {
+        self.opening(pool, passage.source)?;
+        named(self.store, passage.object)?;
+        if passage.source == passage.object {
+            return Err(Refusal::Same);
+        }
+        passage.origin().in_object()?;
+        passage.target().in_object()
     }
-    passage.origin().in_object()?;
-    passage.target().in_object()
-}
 
-// 3 or 4 of a new object.
-pub fn new_object(s: &Store, object: u32) -> Result<(), Refusal>
-    requires { Sound s.now }
-    ensures { (x : List ℕ) → number_of result ≡ refusal s.now x (new_object object) }
-{
-    if 31 < object {
-        return Err(Refusal::NoObject);
+    // 3 or 4 of a new object.
+    pub fn new_object(&self, object: u32) -> Result<(), Refusal>
+        ensures { (x : List ℕ) → number_of result ≡ refusal self.now.store.now x (new_object object) }
+    {
+        if 31 < object {
+            return Err(Refusal::NoObject);
+        }
+        if is_live(self.store.live, object) {
+            return Err(Refusal::Taken);
+        }
+        Ok(())
     }
-    if is_live(s.live, object) {
-        return Err(Refusal::Taken);
+
+    // 3 of an object that is dropped.
+    pub fn drop_object(&self, object: u32) -> Result<(), Refusal>
+        ensures { (x : List ℕ) → number_of result ≡ refusal self.now.store.now x (drop_object object) }
+    {
+        named(self.store, object)
     }
-    Ok(())
-}
 
-// 3 of an object that is dropped.
-pub fn drop_object(s: &Store, object: u32) -> Result<(), Refusal>
-    requires { Sound s.now }
-    ensures { (x : List ℕ) → number_of result ≡ refusal s.now x (drop_object object) }
-{
-    named(s, object)
-}
-
-// 3 or 6 of a page that is looked up.
-pub fn look_up(s: &Store, object: u32, page: PageNumber) -> Result<(), Refusal>
-    requires { Sound s.now }
-    ensures { (x : List ℕ) → number_of result ≡ refusal s.now x (look_up object page.0) }
-{
-    named(s, object)?;
-    in_object(page)
-}
-
-// 2, 3 or 6 of a page that is shown.
-pub fn show(s: &Store, pool: usize, object: u32, page: PageNumber) -> Result<(), Refusal>
-    requires { Sound s.now }
-    ensures { (x : List ℕ) → length x ≡ pool → number_of result ≡ refusal s.now x (show object page.0) }
-{
-    opening(s, pool, object)?;
-    in_object(page)
-}
-
-// 2, 3, 6, 8 or 9 of a page that is added.
-pub fn add(s: &Store, pool: usize, object: u32, page: PageNumber) -> Result<(), Refusal>
-    requires { Sound s.now }
-    ensures { (x : List ℕ) → length x ≡ pool → number_of result ≡ refusal s.now x (add object page.0) }
-{
-    opening(s, pool, object)?;
-    in_object(page)?;
-    lacking(s, 1, 0)
-}
-
-// 2, 3 or 6 of bytes that are read.
-pub fn read(s: &Store, pool: usize, extent: Extent) -> Result<(), Refusal>
-    requires { Sound s.now }
-    ensures { (x : List ℕ) → length x ≡ pool → number_of result ≡ refusal s.now x (read extent.object extent.offset extent.n) }
-{
-    opening(s, pool, extent.object)?;
-    extent.in_object()
-}
-
-// 2, 3, 6, 8 or 9 of bytes that are written.
-pub fn write(s: &Store, charts: &Charts, pool: usize, extent: Extent) -> Result<(), Refusal>
-    requires { (Sound s.now) × (FrameChains s.now.places s.now.frames charts.now.frames) × (RangeChains s.now.ranges s.now.count charts.now.ranges) }
-    ensures { (x d : List ℕ) → length x ≡ pool → length d ≡ extent.n → number_of result ≡ refusal s.now x (write extent.object extent.offset d) }
-{
-    opening(s, pool, extent.object)?;
-    extent.in_object()?;
-    lacking_bytes(s, charts, extent)
-}
-
-// 2, 3, 5, 6, 8 or 9 of a copy.
-pub fn copy(s: &Store, charts: &Charts, pool: usize, passage: Passage) -> Result<(), Refusal>
-    requires { (Sound s.now) × (FrameChains s.now.places s.now.frames charts.now.frames) × (RangeChains s.now.ranges s.now.count charts.now.ranges) }
-    ensures { (x : List ℕ) → length x ≡ pool → number_of result ≡ refusal s.now x (copy passage.source passage.from passage.object passage.to passage.n) }
-{
-    pairing(s, pool, passage)?;
-    lacking_copy(s, charts, passage)
-}
-
-// 2, 3, 5, 6, 7, 8 or 9 of a shadow copy.
-pub fn shadow(s: &Store, pool: usize, passage: Passage) -> Result<(), Refusal>
-    requires { Sound s.now }
-    ensures { (x : List ℕ) → length x ≡ pool → number_of result ≡ refusal s.now x (shadow passage.source passage.from passage.object passage.to passage.n) }
-{
-    pairing(s, pool, passage)?;
-    if PageNumber::place(passage.from) != 0 || PageNumber::place(passage.n) != 0 {
-        return Err(Refusal::NotWhole);
+    // 3 or 6 of a page that is looked up.
+    pub fn look_up(&self, object: u32, page: PageNumber) -> Result<(), Refusal>
+        ensures { (x : List ℕ) → number_of result ≡ refusal self.now.store.now x (look_up object page.0) }
+    {
+        named(self.store, object)?;
+        in_object(page)
     }
-    lacking(s, 0, 2 * met_whole(s, passage.origin()))
+
+    // 2, 3 or 6 of a page that is shown.
+    pub fn show(&self, pool: usize, object: u32, page: PageNumber) -> Result<(), Refusal>
+        ensures { (x : List ℕ) → length x ≡ pool → number_of result ≡ refusal self.now.store.now x (show object page.0) }
+    {
+        self.opening(pool, object)?;
+        in_object(page)
+    }
+
+    // 2, 3, 6, 8 or 9 of a page that is added.
+    pub fn add(&self, pool: usize, object: u32, page: PageNumber) -> Result<(), Refusal>
+        ensures { (x : List ℕ) → length x ≡ pool → number_of result ≡ refusal self.now.store.now x (add object page.0) }
+    {
+        self.opening(pool, object)?;
+        in_object(page)?;
+        self.lacking(1, 0)
+    }
+
+    // 2, 3 or 6 of bytes that are read.
+    pub fn read(&self, pool: usize, extent: Extent) -> Result<(), Refusal>
+        ensures { (x : List ℕ) → length x ≡ pool → number_of result ≡ refusal self.now.store.now x (read extent.object extent.offset extent.n) }
+    {
+        self.opening(pool, extent.object)?;
+        extent.in_object()
+    }
+
+    // 2, 3, 5, 6, 7, 8 or 9 of a shadow copy.
+    pub fn shadow(&self, pool: usize, passage: Passage) -> Result<(), Refusal>
+        ensures { (x : List ℕ) → length x ≡ pool → number_of result ≡ refusal self.now.store.now x (shadow passage.source passage.from passage.object passage.to passage.n) }
+    {
+        self.pairing(pool, passage)?;
+        if PageNumber::place(passage.from) != 0 || PageNumber::place(passage.n) != 0 {
+            return Err(Refusal::NotWhole);
+        }
+        self.lacking(0, 2 * met_whole(self.store, passage.origin()))
+    }
 }
 
-// 2, 3, 6, 8 or 9 of bytes that are cleared.
-pub fn zero(s: &Store, charts: &Charts, pool: usize, extent: Extent) -> Result<(), Refusal>
-    requires { (Sound s.now) × (FrameChains s.now.places s.now.frames charts.now.frames) × (RangeChains s.now.ranges s.now.count charts.now.ranges) }
-    ensures { (x : List ℕ) → length x ≡ pool → number_of result ≡ refusal s.now x (zero_out extent.object extent.offset extent.n) }
-{
-    opening(s, pool, extent.object)?;
-    extent.in_object()?;
-    lacking_zero(s, charts, extent)
+impl<'a> Entry<'a> {
+    // The pages of the store with their states.
+    pub fn states(&self) -> States<'a>
+        ensures store { result.pages.store.now ≡ self.now.sound.store.now }
+        ensures charts { result.pages.charts.now ≡ self.now.charts.now }
+    {
+        lengths(self.sound.store);
+        let pages = Pages {
+            store: self.sound.store,
+            charts: self.charts,
+        };
+        States { pages }
+    }
+
+    // 2, 3, 6, 8 or 9 of bytes that are written.
+    pub fn write(&self, pool: usize, extent: Extent) -> Result<(), Refusal>
+        ensures { (x d : List ℕ) → length x ≡ pool → length d ≡ extent.n → number_of result ≡ refusal self.now.sound.store.now x (write extent.object extent.offset d) }
+    {
+        self.sound.opening(pool, extent.object)?;
+        extent.in_object()?;
+        self.lacking_bytes(extent)
+    }
+
+    // 2, 3, 5, 6, 8 or 9 of a copy.
+    pub fn copy(&self, pool: usize, passage: Passage) -> Result<(), Refusal>
+        ensures { (x : List ℕ) → length x ≡ pool → number_of result ≡ refusal self.now.sound.store.now x (copy passage.source passage.from passage.object passage.to passage.n) }
+    {
+        self.sound.pairing(pool, passage)?;
+        self.lacking_copy(passage)
+    }
+
+    // 2, 3, 6, 8 or 9 of bytes that are cleared.
+    pub fn zero(&self, pool: usize, extent: Extent) -> Result<(), Refusal>
+        ensures { (x : List ℕ) → length x ≡ pool → number_of result ≡ refusal self.now.sound.store.now x (zero_out extent.object extent.offset extent.n) }
+    {
+        self.sound.opening(pool, extent.object)?;
+        extent.in_object()?;
+        self.lacking_zero(extent)
+    }
 }

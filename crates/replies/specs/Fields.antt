@@ -3,7 +3,7 @@ use Rattle.std.specs.Prelude.{◌≡◌, refl, List, [], ◌∷◌, ℕ, suc, le
 use Rattle.std.proofs.Common.{arith}
 use borrow.Author.Tests.{ne_eqb, le-leb}
 use Rattle.lists.specs.Test.{pick, by-test}
-use Rattle.replies.specs.declared.command.Span.{Span}
+use Rattle.refusals.specs.declared.Passage.{Passage}
 use Rattle.book.specs.Book.{Call, new_object, drop_object, write, read, add, look_up, copy, shadow, zero_out, counts}
 use Rattle.replies.specs.Line.{byte_at, four_at, rows, chosen, call_of}
 
@@ -32,13 +32,13 @@ number_in (a ∷ b ∷ c ∷ d ∷ x) = Some (four_at 0 (a ∷ b ∷ c ∷ d ∷
 number_in x = None
 
 -- "(source, offset, destination, offset, length)"
-abbrev pub span_in : List ℕ → Field Span
-span_in x =
+abbrev pub passage_in : List ℕ → Field Passage
+passage_in x =
     next (byte_in x) (λ s x₁.
     next (number_in x₁) (λ f x₂.
     next (byte_in x₂) (λ o x₃.
     next (number_in x₃) (λ t x₄.
-    next (number_in x₄) (λ n x₅. Some (record { source = s; from = f; object = o; to = t; length = n }, x₅))))))
+    next (number_in x₄) (λ n x₅. Some (record { source = s; from = f; object = o; to = t; n = n }, x₅))))))
 
 -- of the code k, its call, and the bytes behind its fields
 abbrev pub call_in : ℕ → List ℕ → Field Call
@@ -49,8 +49,8 @@ call_in k x =
     (pick (eqb k 4) (next (byte_in x) (λ o x₁. next (number_in x₁) (λ n x₂. next (byte_in x₂) (λ m x₃. Some (read o n m, x₃)))))
     (pick (eqb k 5) (next (byte_in x) (λ o x₁. next (number_in x₁) (λ p x₂. Some (add o p, x₂))))
     (pick (eqb k 6) (next (byte_in x) (λ o x₁. next (number_in x₁) (λ p x₂. Some (look_up o p, x₂))))
-    (pick (eqb k 7) (next (span_in x) (λ s x₁. Some (copy s.source s.from s.object s.to s.length, x₁)))
-    (pick (eqb k 8) (next (span_in x) (λ s x₁. Some (shadow s.source s.from s.object s.to s.length, x₁)))
+    (pick (eqb k 7) (next (passage_in x) (λ s x₁. Some (copy s.source s.from s.object s.to s.n, x₁)))
+    (pick (eqb k 8) (next (passage_in x) (λ s x₁. Some (shadow s.source s.from s.object s.to s.n, x₁)))
     (pick (eqb k 9) (next (byte_in x) (λ o x₁. next (number_in x₁) (λ n x₂. next (number_in x₂) (λ m x₃. Some (zero_out o n m, x₃)))))
     (pick (eqb k 10) (Some (counts, x)) None)))))))))
 
@@ -90,23 +90,23 @@ module _ (k : ℕ) where
   read_row (a ∷ b ∷ c ∷ d ∷ e ∷ f ∷ []) = refl
   read_row (a ∷ b ∷ c ∷ d ∷ e ∷ f ∷ p ∷ x) = long _ _ (suc (length x)) (length (k ∷ a ∷ b ∷ c ∷ d ∷ e ∷ f ∷ p ∷ x)) 7 (omega arith) (omega arith)
 
-  span_row : (f : Span → Call) (x : List ℕ) → whole (next (span_in x) (λ s x₁. Some (f s, x₁))) ≡ pick (eqb (length (k ∷ x)) 15) (Some (f (record { source = byte_at 1 (k ∷ x); from = four_at 2 (k ∷ x); object = byte_at 6 (k ∷ x); to = four_at 7 (k ∷ x); length = four_at 11 (k ∷ x) }))) None
-  span_row f [] = refl
-  span_row f (a ∷ []) = refl
-  span_row f (a ∷ b ∷ []) = refl
-  span_row f (a ∷ b ∷ c ∷ []) = refl
-  span_row f (a ∷ b ∷ c ∷ d ∷ []) = refl
-  span_row f (a ∷ b ∷ c ∷ d ∷ e ∷ []) = refl
-  span_row f (a ∷ b ∷ c ∷ d ∷ e ∷ g ∷ []) = refl
-  span_row f (a ∷ b ∷ c ∷ d ∷ e ∷ g ∷ h ∷ []) = refl
-  span_row f (a ∷ b ∷ c ∷ d ∷ e ∷ g ∷ h ∷ i ∷ []) = refl
-  span_row f (a ∷ b ∷ c ∷ d ∷ e ∷ g ∷ h ∷ i ∷ j ∷ []) = refl
-  span_row f (a ∷ b ∷ c ∷ d ∷ e ∷ g ∷ h ∷ i ∷ j ∷ l ∷ []) = refl
-  span_row f (a ∷ b ∷ c ∷ d ∷ e ∷ g ∷ h ∷ i ∷ j ∷ l ∷ m ∷ []) = refl
-  span_row f (a ∷ b ∷ c ∷ d ∷ e ∷ g ∷ h ∷ i ∷ j ∷ l ∷ m ∷ n ∷ []) = refl
-  span_row f (a ∷ b ∷ c ∷ d ∷ e ∷ g ∷ h ∷ i ∷ j ∷ l ∷ m ∷ n ∷ o ∷ []) = refl
-  span_row f (a ∷ b ∷ c ∷ d ∷ e ∷ g ∷ h ∷ i ∷ j ∷ l ∷ m ∷ n ∷ o ∷ q ∷ []) = refl
-  span_row f (a ∷ b ∷ c ∷ d ∷ e ∷ g ∷ h ∷ i ∷ j ∷ l ∷ m ∷ n ∷ o ∷ q ∷ p ∷ x) = long _ _ (suc (length x)) (length (k ∷ a ∷ b ∷ c ∷ d ∷ e ∷ g ∷ h ∷ i ∷ j ∷ l ∷ m ∷ n ∷ o ∷ q ∷ p ∷ x)) 15 (omega arith) (omega arith)
+  passage_row : (f : Passage → Call) (x : List ℕ) → whole (next (passage_in x) (λ s x₁. Some (f s, x₁))) ≡ pick (eqb (length (k ∷ x)) 15) (Some (f (record { source = byte_at 1 (k ∷ x); from = four_at 2 (k ∷ x); object = byte_at 6 (k ∷ x); to = four_at 7 (k ∷ x); n = four_at 11 (k ∷ x) }))) None
+  passage_row f [] = refl
+  passage_row f (a ∷ []) = refl
+  passage_row f (a ∷ b ∷ []) = refl
+  passage_row f (a ∷ b ∷ c ∷ []) = refl
+  passage_row f (a ∷ b ∷ c ∷ d ∷ []) = refl
+  passage_row f (a ∷ b ∷ c ∷ d ∷ e ∷ []) = refl
+  passage_row f (a ∷ b ∷ c ∷ d ∷ e ∷ g ∷ []) = refl
+  passage_row f (a ∷ b ∷ c ∷ d ∷ e ∷ g ∷ h ∷ []) = refl
+  passage_row f (a ∷ b ∷ c ∷ d ∷ e ∷ g ∷ h ∷ i ∷ []) = refl
+  passage_row f (a ∷ b ∷ c ∷ d ∷ e ∷ g ∷ h ∷ i ∷ j ∷ []) = refl
+  passage_row f (a ∷ b ∷ c ∷ d ∷ e ∷ g ∷ h ∷ i ∷ j ∷ l ∷ []) = refl
+  passage_row f (a ∷ b ∷ c ∷ d ∷ e ∷ g ∷ h ∷ i ∷ j ∷ l ∷ m ∷ []) = refl
+  passage_row f (a ∷ b ∷ c ∷ d ∷ e ∷ g ∷ h ∷ i ∷ j ∷ l ∷ m ∷ n ∷ []) = refl
+  passage_row f (a ∷ b ∷ c ∷ d ∷ e ∷ g ∷ h ∷ i ∷ j ∷ l ∷ m ∷ n ∷ o ∷ []) = refl
+  passage_row f (a ∷ b ∷ c ∷ d ∷ e ∷ g ∷ h ∷ i ∷ j ∷ l ∷ m ∷ n ∷ o ∷ q ∷ []) = refl
+  passage_row f (a ∷ b ∷ c ∷ d ∷ e ∷ g ∷ h ∷ i ∷ j ∷ l ∷ m ∷ n ∷ o ∷ q ∷ p ∷ x) = long _ _ (suc (length x)) (length (k ∷ a ∷ b ∷ c ∷ d ∷ e ∷ g ∷ h ∷ i ∷ j ∷ l ∷ m ∷ n ∷ o ∷ q ∷ p ∷ x)) 15 (omega arith) (omega arith)
 
   zero_row : (x : List ℕ) → whole (next (byte_in x) (λ o x₁. next (number_in x₁) (λ n x₂. next (number_in x₂) (λ m x₃. Some (zero_out o n m, x₃))))) ≡ pick (eqb (length (k ∷ x)) 10) (Some (zero_out (byte_at 1 (k ∷ x)) (four_at 2 (k ∷ x)) (four_at 6 (k ∷ x)))) None
   zero_row [] = refl
@@ -144,8 +144,8 @@ module _ (k : ℕ) where
       by-test (eqb k 4) (λ t. rw (f₁, f₂, f₃, t) (read_row x)) (λ f₄.
       by-test (eqb k 5) (λ t. rw (f₁, f₂, f₃, f₄, t) (number_row add x)) (λ f₅.
       by-test (eqb k 6) (λ t. rw (f₁, f₂, f₃, f₄, f₅, t) (number_row look_up x)) (λ f₆.
-      by-test (eqb k 7) (λ t. rw (f₁, f₂, f₃, f₄, f₅, f₆, t) (span_row (λ s. copy s.source s.from s.object s.to s.length) x)) (λ f₇.
-      by-test (eqb k 8) (λ t. rw (f₁, f₂, f₃, f₄, f₅, f₆, f₇, t) (span_row (λ s. shadow s.source s.from s.object s.to s.length) x)) (λ f₈.
+      by-test (eqb k 7) (λ t. rw (f₁, f₂, f₃, f₄, f₅, f₆, t) (passage_row (λ s. copy s.source s.from s.object s.to s.n) x)) (λ f₇.
+      by-test (eqb k 8) (λ t. rw (f₁, f₂, f₃, f₄, f₅, f₆, f₇, t) (passage_row (λ s. shadow s.source s.from s.object s.to s.n) x)) (λ f₈.
       by-test (eqb k 9) (λ t. rw (f₁, f₂, f₃, f₄, f₅, f₆, f₇, f₈, t) (zero_row x)) (λ f₉.
       by-test (eqb k 10) (λ t. rw (f₁, f₂, f₃, f₄, f₅, f₆, f₇, f₈, f₉, t) (counts_row x)) (λ f.
       rw (f₁, f₂, f₃, f₄, f₅, f₆, f₇, f₈, f₉, f))))))))))))

@@ -1,7 +1,10 @@
 -- WHAT ONE LINE'S CALL HAS DONE, with the bytes of its answer.
-use Rattle.std.specs.Prelude.{◌≡◌, refl, List, [], ◌∷◌, ℕ, zero, suc, ◌≤◌, ◌<◌, length, Option, None, Some}
+use Rattle.std.specs.Prelude.{◌≡◌, refl, List, [], ◌∷◌, ℕ, zero, suc, ◌≤◌, ◌<◌, length, Option, None, Some, Result, Ok, Err}
 use Rattle.std.proofs.Common.{ap, sym, subst, ◌∙◌, arith}
+use Rattle.arrayvec.specs.ArrayVec.{ArrayVec}
 use Rattle.store.specs.declared.Store.{Store}
+use Rattle.refusals.specs.declared.Refusal.{Refusal}
+use Rattle.refusals.specs.Number.{number, number_positive}
 use Rattle.book.specs.Book.{Call, Answer, done, read, bytes}
 use Rattle.calls.specs.Calls.{said}
 use Rattle.calls.specs.With.{DidWith}
@@ -13,6 +16,11 @@ pub record Spoke (c : Call) (s : Store) (x : List ℕ) (d : List ℕ) (t : Store
   pub answer : Answer
   pub did : DidWith c s x number answer t y
   pub bytes : d ≡ spoken (said number answer)
+
+-- the bytes of a call's answer: "A refusal prints its byte alone."
+abbrev pub told : Result (ArrayVec ℕ) Refusal → List ℕ
+told (Ok d) = d.items
+told (Err e) = number e ∷ []
 
 -- The same of a call that lends no pool: whatever pool there is stays.
 abbrev pub SpokeAlone : Call → Store → List ℕ → Store → Type 0
@@ -53,30 +61,18 @@ unfolding spoken
 number_refused zero a l = absurd (omega arith)
 number_refused (suc k) a l = refl
 
-number_answered : (k : ℕ) (a : Answer) → k ≤ 0 → spoken a ≡ spoken (said k a)
-number_answered zero a l = refl
-number_answered (suc k) a l = absurd (omega arith)
-
-module _ {c : Call} {s t : Store} {x y d : List ℕ} {k : ℕ} where
+module _ {c : Call} {s t : Store} {x y : List ℕ} where
   -- a call that answers nothing more; u is where its store is kept
-  pub spoke_done : {u : Store} → DidWith c s x k done t y → d ≡ k ∷ [] → u ≡ t → Spoke c s x d u y
-  spoke_done D e f = subst (λ v. Spoke c s x d v y) (sym f) (record { number = k; answer = done; did = D; bytes = e ∙ number_done k })
+  pub spoke_done : {u : Store} {k : ℕ} {d : List ℕ} → DidWith c s x k done t y → d ≡ k ∷ [] → u ≡ t → Spoke c s x d u y
+  spoke_done {k = k} {d = d} D e f = subst (λ v. Spoke c s x d v y) (sym f) (record { number = k; answer = done; did = D; bytes = e ∙ number_done k })
 
-  module _ {a : Answer} (D : DidWith c s x k a t y) where
-    -- "A refusal prints its byte alone."
-    pub spoke_refused : 0 < k → d ≡ k ∷ [] → Spoke c s x d t y
-    spoke_refused l e = record { number = k; answer = a; did = D; bytes = e ∙ number_refused k a l }
+  -- "A refusal prints its byte alone."
+  pub spoke_refused : {a : Answer} (r : Result (ArrayVec ℕ) Refusal) (e : Refusal) → r ≡ Err e → DidWith c s x (number e) a t y → Spoke c s x (told r) t y
+  spoke_refused {a = a} r e f D = rw f (record { number = number e; answer = a; did = D; bytes = number_refused (number e) a (number_positive e) })
 
-    pub spoke_answered : k ≤ 0 → d ≡ spoken a → Spoke c s x d t y
-    spoke_answered l e = record { number = k; answer = a; did = D; bytes = e ∙ number_answered k a l }
+  pub spoke_answered : {a : Answer} {d : List ℕ} → DidWith c s x 0 a t y → d ≡ spoken a → Spoke c s x d t y
+  spoke_answered {a = a} D e = record { number = 0; answer = a; did = D; bytes = e }
 
--- of a read the lent buffer z is as long as the line asks
-module _ {o a n : ℕ} {s : Store} {x b d : List ℕ} {k : ℕ} (z : List ℕ) (D : DidWith (read o a (length z)) s x k (bytes b) s x) (e : length z ≡ n) where
-  pub read_refused : 0 < k → d ≡ k ∷ [] → Spoke (read o a n) s x d s x
-  read_refused l f = subst (λ m. Spoke (read o a m) s x d s x) e (spoke_refused D l f)
-
-  pub read_answered : k ≤ 0 → d ≡ k ∷ b → Spoke (read o a n) s x d s x
-  unfolding spoken
-  read_answered l f =
-      let z₀ : k ≡ 0 = omega arith in
-      subst (λ m. Spoke (read o a m) s x d s x) e (spoke_answered D l (f ∙ ap (λ j. j ∷ b) z₀))
+-- of a read the lent buffer is as long as the line asks
+pub read_length : {o a n m : ℕ} {s : Store} {x d : List ℕ} → m ≡ n → Spoke (read o a m) s x d s x → Spoke (read o a n) s x d s x
+read_length {o = o} {a = a} {s = s} {x = x} {d = d} e S = subst (λ k. Spoke (read o a k) s x d s x) e S

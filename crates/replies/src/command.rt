@@ -2,19 +2,10 @@
 ghost use Rattle.std.specs.Prelude.{◌≡◌, [], option_map};
 ghost use Rattle.replies.specs.Line.{call_of};
 ghost use Rattle.replies.specs.Command.{call_for};
-ghost use Rattle.replies.specs.Fields.{Reads, byte_in, number_in, span_in, call_in};
+ghost use Rattle.replies.specs.Fields.{Reads, byte_in, number_in, passage_in, call_in};
 
 use page::PageNumber;
-
-// "source, offset, destination, offset, length"
-#[derive(Clone, Copy)]
-pub struct Span {
-    pub source: u32,
-    pub from: usize,
-    pub object: u32,
-    pub to: usize,
-    pub length: usize,
-}
+use refusals::Passage;
 
 #[derive(Clone, Copy)]
 pub enum Command<'a> {
@@ -42,8 +33,8 @@ pub enum Command<'a> {
         object: u32,
         page: PageNumber,
     },
-    Copy(Span),
-    Shadow(Span),
+    Copy(Passage),
+    Shadow(Passage),
     Zero {
         object: u32,
         offset: usize,
@@ -85,15 +76,15 @@ impl<'a> Fields<'a> {
     }
 
     // "(source, offset, destination, offset, length)"
-    fn span(&mut self) -> Option<Span>
-        ensures { Reads (span_in self.old.rest.now) result self.new.rest.now }
+    fn passage(&mut self) -> Option<Passage>
+        ensures { Reads (passage_in self.old.rest.now) result self.new.rest.now }
     {
-        Some(Span {
+        Some(Passage {
             source: self.name()?,
             from: self.number()?,
             object: self.name()?,
             to: self.number()?,
-            length: self.number()?,
+            n: self.number()?,
         })
     }
 
@@ -107,7 +98,7 @@ impl<'a> Fields<'a> {
         data
     }
 
-    // The call with this code, and its fields.
+    // The call with this code, and its fields. By hand: the code is a byte of the line, and nowhere else is it looked at.
     fn command(&mut self, code: u8) -> Option<Command<'a>>
         ensures { Reads (call_in code self.old.rest.now) (option_map call_for result) self.new.rest.now }
     {
@@ -136,8 +127,8 @@ impl<'a> Fields<'a> {
                 object: self.name()?,
                 page: PageNumber(self.number()?),
             }),
-            7 => Some(Command::Copy(self.span()?)),
-            8 => Some(Command::Shadow(self.span()?)),
+            7 => Some(Command::Copy(self.passage()?)),
+            8 => Some(Command::Shadow(self.passage()?)),
             9 => Some(Command::Zero {
                 object: self.name()?,
                 offset: self.number()?,

@@ -9,13 +9,15 @@ ghost use Rattle.look.specs.Found.{state_is};
 ghost use Rattle.book.specs.Book.{read, add, look_up, counts};
 ghost use Rattle.replies.specs.Line.{two_of, malformed};
 ghost use Rattle.replies.specs.Command.{call_for};
-ghost use Rattle.replies.specs.Replies.{SpokeAlone, Spoke};
+ghost use Rattle.refusals.specs.Number.{number_of};
+ghost use Rattle.calls.specs.Calls.{left};
+ghost use Rattle.replies.specs.Replies.{SpokeAlone, Spoke, told};
 
 use arrayvec::ArrayVec;
-use calls::Reply;
-pub use command::{Command, Span};
+pub use command::Command;
 use look::State;
 use page::PageNumber;
+use refusals::Refusal;
 use store::Store;
 
 // The bytes of an answer.
@@ -38,7 +40,7 @@ fn two(n: usize) -> [u8; 2]
     [high, low]
 }
 
-// "`00` absent, `01` private, `02` shared"
+// "`00` absent, `01` private, `02` shared". By hand: the bytes are the line program's, and no part of a state.
 fn state_byte(t: State) -> u8
     ensures { result ≡ state_byte (state_is t) }
 {
@@ -49,78 +51,67 @@ fn state_byte(t: State) -> u8
     }
 }
 
-// A call that has no more to tell than its number: that is the answer, and the store is the one handed back.
-fn number(s: &mut Store, r: Reply) -> Spoken
-    ensures bytes { result.items ≡ r.number ∷ [] }
-    ensures store { s.new ≡ r.store }
+// A call that has no more to tell than that it is done.
+fn done(s: &mut Store, r: Result<Store, Refusal>) -> Result<Spoken, Refusal>
+    ensures told { told result ≡ number_of r ∷ [] }
+    ensures store { s.new ≡ left s.old r }
 {
-    *s = r.store;
-    spoken(&[r.number])
+    *s = r?;
+    Ok(spoken(&[0]))
 }
 
 // "then read data"
-fn read(s: &Store, pool: &[u8], object: u32, offset: usize, length: u8) -> Spoken
-    ensures { Spoke (read object offset length) s.now pool.now result.items s.now pool.now }
+fn read(s: &Store, pool: &[u8], object: u32, offset: usize, length: u8) -> Result<Spoken, Refusal>
+    ensures { Spoke (read object offset length) s.now pool.now (told result) s.now pool.now }
 {
     let mut data = [0; 255];
     let data = &mut data[..usize::from(length)];
-    let number = access::read(*s, pool, object, offset, data);
-    let mut spoken = spoken(&[number]);
-    if number == 0 {
-        let _ = spoken.try_extend_from_slice(data);
-    }
-    spoken
+    access::read(*s, pool, object, offset, data)?;
+    let mut spoken = spoken(&[0]);
+    let _ = spoken.try_extend_from_slice(data);
+    Ok(spoken)
 }
 
 // "the added frame (two bytes)"
-fn add(s: &mut Store, pool: &mut [u8], object: u32, page: PageNumber) -> Spoken
-    ensures { Spoke (add object page.0) s.old pool.old result.items s.new pool.new }
+fn add(s: &mut Store, pool: &mut [u8], object: u32, page: PageNumber) -> Result<Spoken, Refusal>
+    ensures { Spoke (add object page.0) s.old pool.old (told result) s.new pool.new }
 {
-    let r = access::add(*s, pool, object, page);
-    *s = r.store;
-    if r.number != 0 {
-        return spoken(&[r.number]);
-    }
-    let [high, low] = two(r.frame);
-    spoken(&[0, high, low])
+    let added = access::add(*s, pool, object, page)?;
+    *s = added.store;
+    let [high, low] = two(added.frame);
+    Ok(spoken(&[0, high, low]))
 }
 
 // "`00` absent, `01` private, `02` shared"
-fn look_up(s: &Store, object: u32, page: PageNumber) -> Spoken
-    ensures { SpokeAlone (look_up object page.0) s.now result.items s.now }
+fn look_up(s: &Store, object: u32, page: PageNumber) -> Result<Spoken, Refusal>
+    ensures { SpokeAlone (look_up object page.0) s.now (told result) s.now }
 {
-    let r = calls::look_up(*s, object, page);
-    if r.number != 0 {
-        return spoken(&[r.number]);
-    }
-    spoken(&[0, state_byte(r.state)])
+    let state = calls::look_up(*s, object, page)?;
+    Ok(spoken(&[0, state_byte(state)]))
 }
 
 // "frames in use and ranges (two bytes each)"
-fn counts(s: &Store) -> Spoken
-    ensures { SpokeAlone counts s.now result.items s.now }
+fn counts(s: &Store) -> Result<Spoken, Refusal>
+    ensures { SpokeAlone counts s.now (told result) s.now }
 {
-    let r = calls::counts(*s);
-    if r.number != 0 {
-        return spoken(&[r.number]);
-    }
-    let [frames_high, frames_low] = two(r.frames as usize);
-    let [ranges_high, ranges_low] = two(r.ranges);
-    spoken(&[0, frames_high, frames_low, ranges_high, ranges_low])
+    let numbers = calls::counts(*s)?;
+    let [frames_high, frames_low] = two(numbers.frames);
+    let [ranges_high, ranges_low] = two(numbers.ranges);
+    Ok(spoken(&[0, frames_high, frames_low, ranges_high, ranges_low]))
 }
 
-// THE CALL MADE, and the bytes of its answer.
-pub fn answer(s: &mut Store, pool: &mut [u8], command: Command) -> Spoken
-    ensures { Spoke (call_for command.entry) s.old pool.old result.items s.new pool.new }
+// The call made, and the bytes of its answer where it is done.
+fn call(s: &mut Store, pool: &mut [u8], command: Command) -> Result<Spoken, Refusal>
+    ensures { Spoke (call_for command.entry) s.old pool.old (told result) s.new pool.new }
 {
     match command {
-        Command::NewObject { object } => number(s, calls::new_object(*s, object)),
-        Command::DropObject { object } => number(s, calls::drop_object(*s, object)),
+        Command::NewObject { object } => done(s, calls::new_object(*s, object)),
+        Command::DropObject { object } => done(s, calls::drop_object(*s, object)),
         Command::Write {
             object,
             offset,
             data,
-        } => number(s, access::write(*s, pool, object, offset, data)),
+        } => done(s, access::write(*s, pool, object, offset, data)),
         Command::Read {
             object,
             offset,
@@ -129,22 +120,27 @@ pub fn answer(s: &mut Store, pool: &mut [u8], command: Command) -> Spoken
         Command::Add { object, page } => add(s, pool, object, page),
         Command::LookUp { object, page } => look_up(s, object, page),
         Command::Copy(p) => {
-            let r = copies::copy_ranges(*s, pool, p.source, p.from, p.object, p.to, p.length);
-            number(s, r)
+            let r = copies::copy_ranges(*s, pool, p.source, p.from, p.object, p.to, p.n);
+            done(s, r)
         }
         Command::Shadow(p) => {
-            let r = copies::copy_range_to_shadow(
-                *s, pool, p.source, p.from, p.object, p.to, p.length,
-            );
-            number(s, r)
+            let r = copies::copy_range_to_shadow(*s, pool, p.source, p.from, p.object, p.to, p.n);
+            done(s, r)
         }
         Command::Zero {
             object,
             offset,
             length,
-        } => number(s, copies::zero_ranges(*s, pool, object, offset, length)),
+        } => done(s, copies::zero_ranges(*s, pool, object, offset, length)),
         Command::Counts => counts(s),
     }
+}
+
+// THE CALL MADE, and the bytes of its answer. "A refusal prints its byte alone."
+pub fn answer(s: &mut Store, pool: &mut [u8], command: Command) -> Spoken
+    ensures { Spoke (call_for command.entry) s.old pool.old result.items s.new pool.new }
+{
+    call(s, pool, command).unwrap_or_else(|refusal| spoken(&[refusal.number()]))
 }
 
 // A line that asks for no call: it "prints `FF`".

@@ -1,326 +1,207 @@
-// A store built by hand, the same with something else in one place, and the comparing of stores and answers, for the programs that run the calls.
+// A store built by hand, the same with something else in one place, and what the calls say of a store, for the programs that run the calls.
 #![tactic(auto)]
 
-ghost use Rattle.std.specs.Prelude.{◌<◌};
+ghost use Rattle.std.specs.Prelude.{◌≡◌, ◌<◌, ◌≤◌, length, replicate};
+ghost use Rattle.table.specs.Table.{zero_range};
 
-use calls::Reply;
+use calls::Numbers;
 use look::State;
 use page::PageNumber;
 use places::Place;
+use refusals::Refusal;
+pub use reports::report;
 use store::Store;
 use table::{BackingPages, PageRange};
 
-pub fn report(name: &[u8], right: bool) {
-    io::write_all(1, name);
-    if right {
-        io::write_all(1, b" ok\n");
-        return;
-    }
-    io::write_all(1, b" WRONG\n");
-}
-
 // ---- the parts of a store
-pub fn many(object: u32, start: usize, length: u32, offset: u32, n: u32) -> PageRange {
+pub fn range(
+    object: u32,
+    start: usize,
+    length: u32,
+    offset: u32,
+    backing: BackingPages,
+) -> PageRange
+    ensures { result ≡ record { object = object; start = record { 0 = start }; length = length; offset = offset; backing = backing } }
+{
     PageRange {
         object,
         start: PageNumber(start),
         length,
         offset,
-        backing: BackingPages::Many(n),
+        backing,
     }
+}
+
+pub fn many(object: u32, start: usize, length: u32, offset: u32, n: u32) -> PageRange {
+    range(object, start, length, offset, BackingPages::Many(n))
 }
 
 pub fn single(object: u32, start: usize, length: u32, offset: u32, n: u32) -> PageRange {
-    PageRange {
-        object,
-        start: PageNumber(start),
-        length,
-        offset,
-        backing: BackingPages::Single(n),
-    }
+    range(object, start, length, offset, BackingPages::Single(n))
 }
 
 pub fn nothing(object: u32, start: usize, length: u32, offset: u32) -> PageRange {
-    PageRange {
-        object,
-        start: PageNumber(start),
-        length,
-        offset,
-        backing: BackingPages::Nothing,
-    }
-}
-
-pub fn no_ranges() -> [PageRange; 512] {
-    let z = nothing(0, 0, 0, 0);
-    [z; 512]
-}
-
-// Page 0 of object 0 in backing 1; pages 5 up to 8 of objects 0 and 1 in backing 2, which they share.
-pub fn good_ranges() -> [PageRange; 512] {
-    let mut a = no_ranges();
-    a[0] = single(0, 0, 1, 0, 1);
-    a[1] = many(0, 5, 3, 0, 2);
-    a[2] = many(1, 5, 3, 0, 2);
-    a
+    range(object, start, length, offset, BackingPages::Nothing)
 }
 
 pub fn place(backing: u32, index: u32) -> Place {
     Place { backing, index }
 }
 
-pub fn nowhere() -> [Place; 1024] {
-    let z = place(0, 0);
-    [z; 1024]
-}
+// Where a free frame stands.
+pub const FREE: Place = Place::NOWHERE;
 
-// Frame 3 holds page 0 of object 0, frame 2 holds page 6 of both objects.
-pub fn good_places() -> [Place; 1024] {
-    let mut a = nowhere();
-    a[3] = place(1, 0);
-    a[2] = place(2, 1);
+// An array that begins so, the rest filled up.
+fn padded<T: Copy, const N: usize>(first: &[T], rest: T) -> [T; N]
+    requires { length first.now ≤ N }
+{
+    let mut a = [rest; N];
+    a[..first.len()].copy_from_slice(first);
     a
 }
 
-pub fn words(w: u64) -> [u64; 16] {
-    let mut a: [u64; 16] = [0; 16];
-    a[0] = w;
-    a
-}
-
+// A store with these ranges from slot 0 on, with frames at these places from frame 0 on, and with a free map that begins so.
 pub fn store(
     frames: usize,
     live: u32,
-    count: usize,
-    ranges: [PageRange; 512],
-    places: [Place; 1024],
-    free: [u64; 16],
-) -> Store {
+    ranges: &[PageRange],
+    places: &[Place],
+    free: &[u64],
+) -> Store
+    requires { (length ranges.now ≤ 512) × (length places.now ≤ 1024) × (length free.now ≤ 16) }
+{
+    Store {
+        frames,
+        live,
+        count: ranges.len(),
+        ranges: padded(ranges, PageRange::ZERO),
+        places: padded(places, FREE),
+        free: padded(free, 0),
+    }
+}
+
+// A store of no object.
+pub fn blank(frames: usize, free: &[u64]) -> Store
+    requires { length free.now ≤ 16 }
+    ensures frames { result.frames ≡ frames }
+    ensures no_range { (result.count ≡ 0) × (result.ranges ≡ replicate 512 zero_range) }
+{
+    Store {
+        frames,
+        live: 0,
+        count: 0,
+        ranges: [PageRange::ZERO; 512],
+        places: [FREE; 1024],
+        free: padded(free, 0),
+    }
+}
+
+// ---- the good store
+// Four frames, names 0 and 1 live. Page 0 of object 0 is in backing 1 and frame 3; pages 5 up to 8 of objects 0 and 1 are in backing 2, which they share, and page 6 is in frame 2. Frames 0 and 1 are free.
+pub fn good() -> Store {
+    store(
+        4,
+        3,
+        &[
+            single(0, 0, 1, 0, 1),
+            many(0, 5, 3, 0, 2),
+            many(1, 5, 3, 0, 2),
+        ],
+        &[FREE, FREE, place(2, 1), place(1, 0)],
+        &[3],
+    )
+}
+
+// The same with something else in one place.
+pub fn with_counts(frames: usize, live: u32, count: usize) -> Store {
     Store {
         frames,
         live,
         count,
-        ranges,
-        places,
-        free,
+        ..good()
     }
-}
-
-// Four frames, names 0 and 1 live, three ranges, frames 0 and 1 free.
-pub fn good() -> Store {
-    store(4, 3, 3, good_ranges(), good_places(), words(3))
-}
-
-// A store of no object.
-pub fn blank(frames: usize, free: [u64; 16]) -> Store {
-    store(frames, 0, 0, no_ranges(), nowhere(), free)
-}
-
-// ---- the good store with something else in one place
-pub fn with_counts(frames: usize, live: u32, count: usize) -> Store {
-    store(frames, live, count, good_ranges(), good_places(), words(3))
 }
 
 pub fn with_range(i: usize, r: PageRange) -> Store
     requires { i < 512 }
 {
-    let mut a = good_ranges();
-    a[i] = r;
-    store(4, 3, 3, a, good_places(), words(3))
+    let mut s = good();
+    s.ranges[i] = r;
+    s
 }
 
 pub fn with_ranges(i: usize, r: PageRange, j: usize, q: PageRange) -> Store
     requires { (i < 512) × (j < 512) }
 {
-    let mut a = good_ranges();
-    a[i] = r;
-    a[j] = q;
-    store(4, 3, 3, a, good_places(), words(3))
-}
-
-pub fn with_place(f: usize, p: Place, w: u64) -> Store
-    requires { f < 1024 }
-{
-    let mut a = good_places();
-    a[f] = p;
-    store(4, 3, 3, good_ranges(), a, words(w))
+    let mut s = with_range(i, r);
+    s.ranges[j] = q;
+    s
 }
 
 pub fn with_word(i: usize, w: u64) -> Store
     requires { i < 16 }
 {
-    let mut a = words(3);
-    a[i] = w;
-    store(4, 3, 3, good_ranges(), good_places(), a)
+    let mut s = good();
+    s.free[i] = w;
+    s
+}
+
+pub fn with_place(f: usize, p: Place, w: u64) -> Store
+    requires { f < 1024 }
+{
+    let mut s = with_word(0, w);
+    s.places[f] = p;
+    s
 }
 
 // A table without an unused slot: every other page of object 0, each an index of backing 1.
 pub fn full_table() -> [PageRange; 512] {
-    let mut a = no_ranges();
-    let mut k: usize = 0;
-    while k < 512 {
+    let mut a = [PageRange::ZERO; 512];
+    for k in 0..512 {
         a[k] = many(0, k * 2, 1, k as u32, 1);
-        k += 1;
     }
     a
 }
 
 pub fn full(count: usize) -> Store {
-    store(4, 1, count, full_table(), nowhere(), words(15))
-}
-
-// ---- whether two stores are the same
-pub fn is_nothing(b: BackingPages) -> bool {
-    match b {
-        BackingPages::Nothing => true,
-        BackingPages::Single(_) => false,
-        BackingPages::Many(_) => false,
+    Store {
+        count,
+        ..store(4, 1, &full_table(), &[], &[15])
     }
 }
 
-pub fn is_single(b: BackingPages, n: u32) -> bool {
-    match b {
-        BackingPages::Nothing => false,
-        BackingPages::Single(m) => m == n,
-        BackingPages::Many(_) => false,
-    }
+// ---- what the calls say of a store
+pub fn state(s: Store, object: u32, page: usize) -> Result<State, Refusal> {
+    calls::look_up(s, object, PageNumber(page))
 }
 
-pub fn is_many(b: BackingPages, n: u32) -> bool {
-    match b {
-        BackingPages::Nothing => false,
-        BackingPages::Single(_) => false,
-        BackingPages::Many(m) => m == n,
-    }
-}
-
-pub fn same_backing(a: BackingPages, b: BackingPages) -> bool {
-    match a {
-        BackingPages::Nothing => is_nothing(b),
-        BackingPages::Single(n) => is_single(b, n),
-        BackingPages::Many(n) => is_many(b, n),
-    }
-}
-
-pub fn same_range(p: PageRange, q: PageRange) -> bool {
-    let a = p.backing;
-    let b = q.backing;
-    let k = same_backing(a, b);
-    k & (p.object == q.object)
-        & (p.start.0 == q.start.0)
-        & (p.length == q.length)
-        & (p.offset == q.offset)
-}
-
-pub fn same_ranges(a: [PageRange; 512], b: [PageRange; 512]) -> bool {
-    let mut right = true;
-    let mut k: usize = 0;
-    while k < 512 {
-        let p = a[k];
-        let q = b[k];
-        right = right & same_range(p, q);
-        k += 1;
-    }
-    right
-}
-
-pub fn same_places(a: [Place; 1024], b: [Place; 1024]) -> bool {
-    let mut right = true;
-    let mut k: usize = 0;
-    while k < 1024 {
-        let p = a[k];
-        let q = b[k];
-        right = right & (p.backing == q.backing) & (p.index == q.index);
-        k += 1;
-    }
-    right
-}
-
-pub fn same_words(a: [u64; 16], b: [u64; 16]) -> bool {
-    let mut right = true;
-    let mut k: usize = 0;
-    while k < 16 {
-        right = right & (a[k] == b[k]);
-        k += 1;
-    }
-    right
-}
-
-pub fn same_store(s: Store, t: Store) -> bool {
-    let r = s.ranges;
-    let q = t.ranges;
-    let ranges = same_ranges(r, q);
-    let a = s.places;
-    let b = t.places;
-    let places = same_places(a, b);
-    let v = s.free;
-    let w = t.free;
-    let free = same_words(v, w);
-    ranges & places & free & (s.frames == t.frames) & (s.live == t.live) & (s.count == t.count)
-}
-
-// ---- answers
-pub fn gives(r: Reply, number: u8, s: Store) -> bool {
-    let t = r.store;
-    (r.number == number) & same_store(t, s)
-}
-
-pub fn counted(s: Store, number: u8, frames: u32, ranges: usize) -> bool {
-    let n = calls::counts(s);
-    (n.number == number) & (n.frames == frames) & (n.ranges == ranges)
-}
-
-pub fn is_absent(t: State) -> bool {
-    match t {
-        State::Absent => true,
-        State::Private => false,
-        State::Shared => false,
-    }
-}
-
-pub fn is_private(t: State) -> bool {
-    match t {
-        State::Absent => false,
-        State::Private => true,
-        State::Shared => false,
-    }
-}
-
-pub fn is_shared(t: State) -> bool {
-    match t {
-        State::Absent => false,
-        State::Private => false,
-        State::Shared => true,
-    }
-}
-
-pub fn absent(s: Store, object: u32, page: usize, number: u8) -> bool {
-    let l = calls::look_up(s, object, PageNumber(page));
-    let t = l.state;
-    (l.number == number) & is_absent(t)
+pub fn absent(s: Store, object: u32, page: usize) -> bool {
+    state(s, object, page) == Ok(State::Absent)
 }
 
 pub fn private(s: Store, object: u32, page: usize) -> bool {
-    let l = calls::look_up(s, object, PageNumber(page));
-    let t = l.state;
-    (l.number == 0) & is_private(t)
+    state(s, object, page) == Ok(State::Private)
 }
 
 pub fn shared(s: Store, object: u32, page: usize) -> bool {
-    let l = calls::look_up(s, object, PageNumber(page));
-    let t = l.state;
-    (l.number == 0) & is_shared(t)
+    state(s, object, page) == Ok(State::Shared)
 }
 
-// A store that is not sound: every call is refused with 1 and hands the store back.
-pub fn spoiled(name: &[u8], s: Store) {
-    let c = counted(s, 1, 0, 0);
-    let l = absent(s, 0, 0, 1) & absent(s, 32, 262144, 1);
-    let n = gives(calls::new_object(s, 5), 1, s) & gives(calls::new_object(s, 32), 1, s);
-    let d = gives(calls::drop_object(s, 0), 1, s) & gives(calls::drop_object(s, 32), 1, s);
-    report(name, c & l & n & d);
+// A store that is not sound: every call is refused with 1.
+pub fn spoiled(name: &str, s: Store) {
+    let why = Refusal::Spoiled;
+    let counted = calls::counts(s) == Err(why);
+    let looked = state(s, 0, 0) == Err(why) && state(s, 32, 262144) == Err(why);
+    let named = [5, 32]
+        .iter()
+        .all(|object| calls::new_object(s, *object) == Err(why));
+    let dropped = [0, 32]
+        .iter()
+        .all(|object| calls::drop_object(s, *object) == Err(why));
+    report(name, counted && looked && named && dropped);
 }
 
 // A sound one with so many frames in use and ranges.
-pub fn sound(name: &[u8], s: Store, frames: u32, ranges: usize) {
-    report(name, counted(s, 0, frames, ranges));
+pub fn sound(name: &str, s: Store, frames: usize, ranges: usize) {
+    report(name, calls::counts(s) == Ok(Numbers { frames, ranges }));
 }

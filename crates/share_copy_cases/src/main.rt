@@ -1,197 +1,187 @@
 // Runs copies and shadow copies of whole pages, which are shared then, and pages handed on from object to object. Answers are written by hand from document 01. One line a case.
 #![tactic(auto)]
 
-use access_samples::{
-    five, free, halves, holed, paged, pair, read_is, small, stand, table, unused,
-};
-use copy_samples::{quiet, shadows};
-use samples::{absent, many, place, private, report, shared, single, sound};
+use access_samples::{five, halves, holed, paged, read_is, small};
+use copy_samples::{across, quiet, shadows};
+use refusals::Refusal;
+use samples::{FREE, absent, many, place, private, report, shared, single, sound};
 use store::Store;
+use table::PageRange;
 
 // ---- whole pages at equal places
+// The five pages of object 0, and this range of object 1.
+fn paged_beside(r: PageRange) -> Store {
+    let mut s = paged();
+    s.ranges[1] = r;
+    s.count = 2;
+    s
+}
+
 fn whole() {
-    let p = paged();
-    let v = p.places;
-    let a = pair(many(0, 0, 5, 0, 1), many(1, 10, 2, 1, 1));
-    let t = small(3, 2, a, v, 0);
-    quiet(b"two pages to another place", p, 4096, 40960, 8192, t);
-    let b = pair(many(0, 0, 5, 0, 1), many(1, 0, 5, 0, 1));
-    let u = small(3, 2, b, v, 0);
-    quiet(b"1 GiB", p, 0, 0, 1073741824, u);
-    let c = pair(many(0, 0, 5, 0, 1), many(1, 262143, 1, 4, 1));
-    let w = small(3, 2, c, v, 0);
-    quiet(b"to the last page", p, 16384, 1073737728, 4096, w);
+    let s = paged();
+    let t = paged_beside(many(1, 10, 2, 1, 1));
+    quiet(
+        "two pages to another place",
+        s,
+        across(4096, 40960, 8192),
+        t,
+    );
+    let t = paged_beside(many(1, 0, 5, 0, 1));
+    quiet("1 GiB", s, across(0, 0, 1073741824), t);
+    let t = paged_beside(many(1, 262143, 1, 4, 1));
+    quiet("to the last page", s, across(16384, 1073737728, 4096), t);
     let h = halves();
-    quiet(b"pages that are shared already", h, 20480, 20480, 12288, h);
+    let p = across(20480, 20480, 12288);
+    quiet("pages that are shared already", h, p, h);
 }
 
 // Pages 0 and 1 of object 0, page 0 in frame 4, and page 3, in frame 3. Pages 0 up to 6 of object 1, pages 0, 2 and 5 in frames 0, 2 and 1.
 fn met() -> Store {
-    let a = many(0, 0, 2, 0, 1);
-    let r = table(
-        a,
+    let a = [
+        many(0, 0, 2, 0, 1),
         single(0, 3, 1, 0, 2),
         many(1, 0, 6, 0, 3),
-        unused(),
-        unused(),
-    );
-    let p = stand(
+    ];
+    let p = [
         place(3, 0),
         place(3, 5),
         place(3, 2),
         place(2, 0),
         place(1, 0),
-    );
-    small(3, 3, r, p, 0)
+    ];
+    small(3, &a, &p, 0)
 }
 
 // Pages 0 up to 5 copied: page 0 of object 1 is gone, and pages 2, 4 and 5 keep their indexes.
 fn met_then() -> Store {
-    let a = many(0, 0, 2, 0, 1);
-    let b = single(0, 3, 1, 0, 2);
-    let mut r = table(
-        a,
-        b,
+    let a = [
+        many(0, 0, 2, 0, 1),
+        single(0, 3, 1, 0, 2),
         many(1, 0, 2, 0, 1),
         many(1, 2, 1, 2, 3),
         single(1, 3, 1, 0, 2),
-    );
-    r[5] = many(1, 4, 2, 4, 3);
-    let p = stand(free(), place(3, 5), place(3, 2), place(2, 0), place(1, 0));
-    small(3, 6, r, p, 1)
+        many(1, 4, 2, 4, 3),
+    ];
+    let p = [FREE, place(3, 5), place(3, 2), place(2, 0), place(1, 0)];
+    small(3, &a, &p, 1)
 }
 
 fn whole_met() {
-    let t = met_then();
-    quiet(b"a range for each source range", met(), 0, 0, 20480, t);
-    shadows(b"and shadowed, a range for each", met(), 0, 4095, 20480, t);
-    report(
-        b"a present page is shared",
-        shared(t, 1, 0) & shared(t, 0, 0),
+    let (s, t) = (met(), met_then());
+    quiet("a range for each source range", s, across(0, 0, 20480), t);
+    shadows(
+        "and shadowed, a range for each",
+        s,
+        across(0, 4095, 20480),
+        t,
     );
-    report(b"a covered page is absent", absent(t, 1, 1, 0));
     report(
-        b"pieces of what was there are shared",
-        shared(t, 1, 2) & shared(t, 1, 5),
+        "a present page is shared",
+        shared(t, 1, 0) && shared(t, 0, 0),
+    );
+    report("a covered page is absent", absent(t, 1, 1));
+    report(
+        "pieces of what was there are shared",
+        shared(t, 1, 2) && shared(t, 1, 5),
     );
     let pool = five();
-    let k = read_is(t, &pool, 1, 4095, &[5, 0]) & read_is(t, &pool, 1, 8191, &[0, 3]);
-    report(b"pages 0 to 2 read back", k);
-    let m = read_is(t, &pool, 1, 16383, &[4, 0]) & read_is(t, &pool, 1, 20479, &[0, 2]);
-    report(b"pages 3 to 5 read back", m);
+    let first = read_is(t, &pool, 1, 4095, &[5, 0]);
+    let second = read_is(t, &pool, 1, 8191, &[0, 3]);
+    report("pages 0 to 2 read back", first && second);
+    let first = read_is(t, &pool, 1, 16383, &[4, 0]);
+    let second = read_is(t, &pool, 1, 20479, &[0, 2]);
+    report("pages 3 to 5 read back", first && second);
 }
 
 // ---- shadows
 fn shadowed() {
-    let p = paged();
-    let v = p.places;
-    let a = pair(many(0, 0, 5, 0, 1), many(1, 1, 2, 1, 1));
-    let t = small(3, 2, a, v, 0);
-    shadows(b"a shadow at an edge", p, 4096, 4096, 8192, t);
-    shadows(b"a shadow 100 bytes behind it", p, 4096, 4196, 8192, t);
-    shadows(b"a shadow one byte before the next", p, 4096, 8191, 8192, t);
-    report(b"both are shared", shared(t, 0, 1) & shared(t, 1, 1));
-    let b = pair(many(0, 0, 5, 0, 1), many(1, 262143, 1, 4, 1));
-    let u = small(3, 2, b, v, 0);
-    shadows(b"a shadow at the last page", p, 16384, 1073737728, 4096, u);
+    let s = paged();
+    let t = paged_beside(many(1, 1, 2, 1, 1));
+    shadows("a shadow at an edge", s, across(4096, 4096, 8192), t);
+    let p = across(4096, 4196, 8192);
+    shadows("a shadow 100 bytes behind it", s, p, t);
+    let p = across(4096, 8191, 8192);
+    shadows("a shadow one byte before the next", s, p, t);
+    report("both are shared", shared(t, 0, 1) && shared(t, 1, 1));
+    let t = paged_beside(many(1, 262143, 1, 4, 1));
+    let p = across(16384, 1073737728, 4096);
+    shadows("a shadow at the last page", s, p, t);
 }
 
 fn shadowed_holes() {
     let s = holed();
-    let a = many(0, 0, 3, 0, 1);
-    let b = single(0, 4, 1, 0, 2);
-    let r = table(a, b, many(1, 0, 3, 0, 1), single(1, 4, 1, 0, 2), unused());
-    let v = s.places;
-    let t = small(3, 4, r, v, 10);
-    shadows(b"a shadow of what has a hole", s, 0, 5, 20480, t);
+    let mut t = s;
+    t.ranges[2] = many(1, 0, 3, 0, 1);
+    t.ranges[3] = single(1, 4, 1, 0, 2);
+    t.count = 4;
+    shadows("a shadow of what has a hole", s, across(0, 5, 20480), t);
 }
 
 // ---- pages handed on from object to object
-fn chain_start(pool: &mut [u8]) -> Store {
-    let c = calls::create(16);
-    let n = calls::new_object(c.store, 0);
-    let m = calls::new_object(n.store, 1);
-    let o = calls::new_object(m.store, 2);
-    let w = access::write(o.store, pool, 0, 4094, &[170, 187, 204, 221]);
-    let r = copies::copy_ranges(w.store, pool, 0, 0, 1, 0, 8192);
-    sound(
-        b"copied to object 1: two frames and two ranges",
-        r.store,
-        2,
-        2,
-    );
-    r.store
+fn chain_start(pool: &mut [u8]) -> Result<Store, Refusal> {
+    let mut s = calls::create(16).unwrap_or_else(|refused| refused.store);
+    for object in 0..3 {
+        s = calls::new_object(s, object)?;
+    }
+    let s = access::write(s, pool, 0, 4094, &[170, 187, 204, 221])?;
+    let s = copies::copy_ranges(s, pool, 0, 0, 1, 0, 8192)?;
+    sound("copied to object 1: two frames and two ranges", s, 2, 2);
+    Ok(s)
 }
 
-fn chain_on(s: Store, pool: &mut [u8]) -> Store {
-    let w = access::write(s, pool, 1, 0, &[17]);
-    sound(b"written: three frames and three ranges", w.store, 3, 3);
-    let r = copies::copy_ranges(w.store, pool, 1, 0, 2, 0, 8192);
-    sound(
-        b"copied to object 2: three frames and five ranges",
-        r.store,
-        3,
-        5,
-    );
-    let d = calls::drop_object(r.store, 0);
-    sound(
-        b"object 0 dropped: two frames and four ranges",
-        d.store,
-        2,
-        4,
-    );
-    d.store
+fn chain_on(s: Store, pool: &mut [u8]) -> Result<Store, Refusal> {
+    let s = access::write(s, pool, 1, 0, &[17])?;
+    sound("written: three frames and three ranges", s, 3, 3);
+    let s = copies::copy_ranges(s, pool, 1, 0, 2, 0, 8192)?;
+    sound("copied to object 2: three frames and five ranges", s, 3, 5);
+    let s = calls::drop_object(s, 0)?;
+    sound("object 0 dropped: two frames and four ranges", s, 2, 4);
+    Ok(s)
+}
+
+// Whether both writes are read of an object.
+fn has_both(s: Store, pool: &[u8], object: u32) -> bool {
+    let first = read_is(s, pool, object, 4094, &[170, 187, 204, 221]);
+    first && read_is(s, pool, object, 0, &[17, 0])
 }
 
 fn chain_read(s: Store, pool: &[u8]) {
-    let a = read_is(s, pool, 1, 4094, &[170, 187, 204, 221]) & read_is(s, pool, 1, 0, &[17, 0]);
-    report(b"object 1 has both writes", a);
-    let b = read_is(s, pool, 2, 4094, &[170, 187, 204, 221]) & read_is(s, pool, 2, 0, &[17, 0]);
-    report(b"object 2 has both writes", b);
-    let k = shared(s, 1, 0) & shared(s, 1, 1) & shared(s, 2, 0) & shared(s, 2, 1);
-    report(b"they share both pages", k);
+    report("object 1 has both writes", has_both(s, pool, 1));
+    report("object 2 has both writes", has_both(s, pool, 2));
+    let pages = [(1, 0), (1, 1), (2, 0), (2, 1)];
+    let are_shared = pages.iter().all(|(object, page)| shared(s, *object, *page));
+    report("they share both pages", are_shared);
 }
 
-fn chain_more(s: Store, pool: &mut [u8]) -> Store {
-    let w = access::write(s, pool, 2, 4096, &[33]);
-    sound(
-        b"object 2 written: three frames and four ranges",
-        w.store,
-        3,
-        4,
-    );
-    w.store
-}
-
-fn chain_end(s: Store, pool: &[u8]) {
+fn chain_end(s: Store, pool: &mut [u8]) -> Result<(), Refusal> {
+    let s = access::write(s, pool, 2, 4096, &[33])?;
+    sound("object 2 written: three frames and four ranges", s, 3, 4);
+    let kept = read_is(s, pool, 1, 4095, &[187, 204, 221]);
+    report("object 1 keeps its bytes", kept);
+    let own = read_is(s, pool, 2, 4095, &[187, 33, 221]);
+    report("object 2 has its own", own);
+    let s = calls::drop_object(s, 1)?;
+    sound("object 1 dropped: two frames and two ranges", s, 2, 2);
+    let alone = private(s, 2, 0) && private(s, 2, 1);
     report(
-        b"object 1 keeps its bytes",
-        read_is(s, pool, 1, 4095, &[187, 204, 221]),
+        "object 2 is alone",
+        alone && read_is(s, pool, 2, 0, &[17, 0]),
     );
-    report(
-        b"object 2 has its own",
-        read_is(s, pool, 2, 4095, &[187, 33, 221]),
-    );
-    let d = calls::drop_object(s, 1);
-    let t = d.store;
-    sound(b"object 1 dropped: two frames and two ranges", t, 2, 2);
-    let k = private(t, 2, 0) & private(t, 2, 1);
-    report(b"object 2 is alone", k & read_is(t, pool, 2, 0, &[17, 0]));
+    Ok(())
 }
 
-fn chain() {
-    let mut pool = [9u8; 65536];
-    let s = chain_start(&mut pool);
-    let t = chain_on(s, &mut pool);
-    chain_read(t, &pool);
-    let u = chain_more(t, &mut pool);
-    chain_end(u, &pool);
+fn chain() -> Result<(), Refusal> {
+    let mut pool = [9; 65536];
+    let s = chain_start(&mut pool)?;
+    let s = chain_on(s, &mut pool)?;
+    chain_read(s, &pool);
+    chain_end(s, &mut pool)
 }
 
-fn main() {
+fn main() -> Result<(), Refusal> {
     whole();
     whole_met();
     shadowed();
     shadowed_holes();
-    chain();
+    chain()
 }

@@ -1,12 +1,10 @@
 -- THE PART OF A RANGE that lies between the pages a and e of the line, as a range of object o whose page q stands for a.
-use Rattle.std.specs.Prelude.{◌≡◌, List, [], ◌∷◌, map, ℕ, ◌+◌, ◌-◌, ◌≤◌, ◌<◌, min, max, length}
+use Rattle.std.specs.Prelude.{◌≡◌, List, [], ◌∷◌, map, ℕ, ◌+◌, ◌-◌, ◌≤◌, ◌<◌, min, max, length, Option, Some, None}
 use Rattle.std.proofs.Common.{ap, ◌∙◌, arith}
 use Rattle.page.specs.declared.PageNumber.{PageNumber}
 use Rattle.table.specs.declared.PageRange.{PageRange}
 use Rattle.table.specs.declared.BackingPages.{BackingPages}
 use Rattle.table.specs.declared.BackingPages.TheVariants.{Nothing, Single, Many}
-use Rattle.table.specs.declared.Piece.{Piece}
-use Rattle.table.specs.declared.Piece.TheVariants.{Empty, Part}
 use Rattle.places.specs.declared.Place.{Place}
 use Rattle.ranges.specs.Range.{Range, line, from, upto}
 use Rattle.ranges.specs.Table.{part, moved}
@@ -32,14 +30,14 @@ moved_range a e o q r = record {
 }
 
 -- what the code says of it: nothing where they do not meet
-abbrev pub IsMoved : ℕ → ℕ → ℕ → ℕ → PageRange → Piece → Type 0
-IsMoved a e o q r Empty = ends e r ≤ begins a r
-IsMoved a e o q r (Part n) = (begins a r < ends e r) × (n ≡ moved_range a e o q r)
+abbrev pub IsMoved : ℕ → ℕ → ℕ → ℕ → PageRange → Option PageRange → Type 0
+IsMoved a e o q r None = ends e r ≤ begins a r
+IsMoved a e o q r (Some n) = (begins a r < ends e r) × (n ≡ moved_range a e o q r)
 
 module _ (a e o q : ℕ) (r : PageRange) where
   -- the code's range is the one meant
   pub is_moved : (g : PageNumber) (s u b t : ℕ) → s ≡ from (ranged r) → u ≡ upto (ranged r) → b ≡ max a s → t ≡ min e u → b < t → g.0 ≡ q + (b - a)
-      → IsMoved a e o q r (Part (record { object = o; start = g; length = t - b; offset = r.offset + (b - s); backing = r.backing }))
+      → IsMoved a e o q r (Some (record { object = o; start = g; length = t - b; offset = r.offset + (b - s); backing = r.backing }))
   is_moved g s u b t es eu eb et h eg =
       let x : b ≡ begins a r = eb ∙ ap (max a) es in
       let y : t ≡ ends e r = et ∙ ap (min e) eu in

@@ -1,8 +1,7 @@
 -- ANOTHER TABLE, IN CODE: the table is replaced, and the places are trimmed by it. It is the book's `with_ranges`.
-use Rattle.std.specs.Prelude.{◌≡◌, true, ◌⊎◌, ℕ, ◌*◌, ◌≤◌, ◌<◌, length, drop}
+use Rattle.std.specs.Prelude.{◌≡◌, true, ◌⊎◌, ℕ, ◌*◌, ◌≤◌, ◌<◌, length, drop, Some}
 use Rattle.std.proofs.Math.Path.{ap, ap₂}
 use Rattle.std.proofs.Common.{sym, ◌∙◌, arith}
-use Rattle.std.proofs.Math.Option.{some}
 use Rattle.std.proofs.Math.Logic.{inl, inr, ⊎_elim}
 use mathlib.Core.List.{List, Memᴰ}
 use Rattle.table.specs.declared.PageRange.{PageRange}
@@ -93,14 +92,14 @@ module _ (s : Store) (x : List ℕ) (I : Inside s x) (u : RangeTable) (t : Store
     -- a frame that has a page below c still has it
     among_stays : (a e f : ℕ) → e ≤ c → f < s.frames → Among a e s f → Among a e t f
     among_stays a e f h l A =
-        let k : slot_at A.page (ranges_of (used t)) ≡ some (spot s f) = low A.page (omega (arith, A.high)) ∙ A.slot in
+        let k : slot_at A.page (ranges_of (used t)) ≡ Some (spot s f) = low A.page (omega (arith, A.high)) ∙ A.slot in
         let p = place_stays f l (slot_named A.page (ranges_of (used t)) (spot s f) k) in
         record {
           page = A.page;
           low = A.low;
           high = A.high;
           held = omega (arith, A.held, ap (λ (q : Place). q.backing) p);
-          slot = k ∙ ap (λ (q : Place). some (slot q.backing q.index)) (sym p);
+          slot = k ∙ ap (λ (q : Place). Some (slot q.backing q.index)) (sym p);
         }
 
     -- so no other frame's bytes count as changed

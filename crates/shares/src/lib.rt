@@ -7,29 +7,29 @@ ghost use Rattle.table.specs.Table.{Small};
 ghost use Rattle.shares.specs.Moved.{IsMoved};
 
 use page::PageNumber;
-use table::{PageRange, Piece};
+use table::PageRange;
 
 // The part of a range between the pages a and e of the line, as a range of `object` whose page `to` stands for a.
-pub fn moved_part(r: PageRange, a: usize, e: usize, object: u32, to: PageNumber) -> Piece
+pub fn moved_part(
+    r: PageRange,
+    a: usize,
+    e: usize,
+    object: u32,
+    to: PageNumber,
+) -> Option<PageRange>
     requires { (Small r) × (to.0 + (e - a) ≤ 262144) }
     ensures { IsMoved a e object to.0 r result }
 {
-    let s = r.first();
-    let b = page::larger(a, s);
-    let t = page::smaller(e, r.end());
-    if t <= b {
-        return Piece::Empty;
+    let first = a.max(r.first());
+    let end = e.min(r.end());
+    if end <= first {
+        return None;
     }
-    let start = to.offset(b - a);
-    let length = (t - b) as u32;
-    let skipped = (b - s) as u32;
-    let index = r.offset + skipped;
-    let backing = r.backing;
-    Piece::Part(PageRange {
+    Some(PageRange {
         object,
-        start,
-        length,
-        offset: index,
-        backing,
+        start: to.offset(first - a),
+        length: (end - first) as u32,
+        offset: r.offset + (first - r.first()) as u32,
+        backing: r.backing,
     })
 }

@@ -6,7 +6,8 @@ ghost use Rattle.charts.specs.Charts.{FrameChains, RangeChains};
 ghost use Rattle.soundness.specs.Parts.{agreeing?, placed?, range_tests};
 ghost use Rattle.store.specs.Sound.{sound?, Sized};
 
-use charts::{Chains, Charts};
+use chains::Chains;
+use charts::Charts;
 use store::Store;
 
 // The sentences about ranges by themselves, "at most 512 ranges" too. Ranges are chained by their backings.
@@ -53,9 +54,6 @@ pub fn examine(s: &Store, charts: &mut Charts) -> bool
 pub fn sound(s: Store) -> bool
     ensures { (result ≡ sound? s) × Sized s }
 {
-    let mut charts = Charts {
-        ranges: Chains::new(),
-        frames: Chains::new(),
-    };
+    let mut charts = Charts::new();
     examine(&s, &mut charts)
 }

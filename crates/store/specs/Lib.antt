@@ -18,3 +18,4 @@ pub mod Spare
 pub mod Stands
 pub mod Tabled
 pub mod Trim
+pub mod With

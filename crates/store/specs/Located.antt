@@ -1,8 +1,6 @@
 -- Where a frame is found: the search in the places answers as the book does, with the frame's bytes.
-use Rattle.std.specs.Prelude.{◌≡◌, refl, true, false, List, [], ◌∷◌, ℕ, zero, suc, ◌+◌, ◌≤◌, ◌<◌, length, get_or, take}
+use Rattle.std.specs.Prelude.{◌≡◌, refl, true, false, List, [], ◌∷◌, ℕ, zero, suc, ◌+◌, ◌≤◌, ◌<◌, length, get_or, take, Some, None}
 use Rattle.std.proofs.Common.{ap, ap₂, sym, ◌∙◌, not-suc-le-zero, arith, get_or-take, length-take-le, eq-eqb, le-ltb, lt-ltb}
-use Rattle.std.proofs.Math.Option.{none, some}
-use Rattle.frames.specs.declared.Frame.TheVariants.{At, Nothing}
 use Rattle.places.specs.declared.Place.{Place}
 use Rattle.places.specs.Places as places
 use Rattle.book.specs.Cell as cell
@@ -16,31 +14,30 @@ use Rattle.store.specs.Abs.{cell_of, cells_of}
 use Rattle.store.specs.Edits.{slot, Only, cell_at, cell_free, cell_holds, length_cells, stands_place}
 
 -- ---- the first cell at a slot
-
 bytes_first : (b i : ℕ) (cs : List Cell) (k : ℕ) (y : List ℕ) → get_or cs k free ≡ holds b i y → ((j : ℕ) → j < k → is_at (slot b i) (get_or cs j free) ≡ false)
-    → bytes_at (slot b i) cs ≡ some y
+    → bytes_at (slot b i) cs ≡ Some y
 unfolding bytes_at
 bytes_first b i [] k y e h = absurd (let z : ◌≡◌ {A = ℕ} 0 1 = cc in omega arith)
 bytes_first b i (c ∷ cs) zero y e h = rw (e, eq-eqb b b refl, eq-eqb i i refl)
 bytes_first b i (free ∷ cs) (suc k) y e h = bytes_first b i cs k y e (λ j l. h (suc j) (omega arith))
 bytes_first b i (holds d j x ∷ cs) (suc k) y e h = rw (h 0 (omega arith)) (bytes_first b i cs k y e (λ j l. h (suc j) (omega arith)))
 
-bytes_none : (s : Slot) (cs : List Cell) → ((j : ℕ) → j < length cs → is_at s (get_or cs j free) ≡ false) → bytes_at s cs ≡ none
+bytes_none : (s : Slot) (cs : List Cell) → ((j : ℕ) → j < length cs → is_at s (get_or cs j free) ≡ false) → bytes_at s cs ≡ None
 unfolding bytes_at
 bytes_none s [] h = refl
 bytes_none s (free ∷ cs) h = bytes_none s cs (λ j l. h (suc j) (omega arith))
 bytes_none s (holds d j x ∷ cs) h = rw (h 0 (omega arith)) (bytes_none s cs (λ j l. h (suc j) (omega arith)))
 
 frame_first : (s : Slot) (n : ℕ) (cs : List Cell) (k : ℕ) → k < length cs → is_at s (get_or cs k free) ≡ true → ((j : ℕ) → j < k → is_at s (get_or cs j free) ≡ false)
-    → cell.frame_at s n cs ≡ some (n + k)
+    → cell.frame_at s n cs ≡ Some (n + k)
 unfolding cell.frame_at
 frame_first s n [] k l e h = absurd (not-suc-le-zero l)
-frame_first s n (c ∷ cs) zero l e h = let z : n ≡ n + 0 = omega arith in rw e (ap some z)
+frame_first s n (c ∷ cs) zero l e h = let z : n ≡ n + 0 = omega arith in rw e (ap Some z)
 frame_first s n (c ∷ cs) (suc k) l e h =
     let z : suc n + k ≡ n + suc k = omega arith in
-    rw (h 0 (omega arith)) (frame_first s (suc n) cs k (omega arith) e (λ j q. h (suc j) (omega arith)) ∙ ap some z)
+    rw (h 0 (omega arith)) (frame_first s (suc n) cs k (omega arith) e (λ j q. h (suc j) (omega arith)) ∙ ap Some z)
 
-frame_no : (s : Slot) (n : ℕ) (cs : List Cell) → ((j : ℕ) → j < length cs → is_at s (get_or cs j free) ≡ false) → cell.frame_at s n cs ≡ none
+frame_no : (s : Slot) (n : ℕ) (cs : List Cell) → ((j : ℕ) → j < length cs → is_at s (get_or cs j free) ≡ false) → cell.frame_at s n cs ≡ None
 unfolding cell.frame_at
 frame_no s n [] h = refl
 frame_no s n (c ∷ cs) h = rw (h 0 (omega arith)) (frame_no s (suc n) cs (λ j l. h (suc j) (omega arith)))
@@ -60,8 +57,8 @@ pub record Located (size n : ℕ) (ps : List Place) (x : List ℕ) (b i f : ℕ)
   pub positive : 0 < b
   pub backing : (place_at ps f).backing ≡ b
   pub index : (place_at ps f).index ≡ i
-  pub bytes : bytes_at (slot b i) (cells_of size n ps x) ≡ some (frame_at size x f)
-  pub frame : cell.frame_at (slot b i) 0 (cells_of size n ps x) ≡ some f
+  pub bytes : bytes_at (slot b i) (cells_of size n ps x) ≡ Some (frame_at size x f)
+  pub frame : cell.frame_at (slot b i) 0 (cells_of size n ps x) ≡ Some f
 
 module _ (size n : ℕ) (ps : List Place) (x : List ℕ) (b i : ℕ) (m : n ≤ length ps) where
   at_frame : (j : ℕ) → j < n → is_at (slot b i) (get_or (cells_of size n ps x) j free) ≡ stands_at b i (place_at (take n ps) j)
@@ -84,18 +81,18 @@ module _ (size n : ℕ) (ps : List Place) (x : List ℕ) (b i : ℕ) (m : n ≤ 
         backing = s.1;
         index = s.2;
         bytes = bytes_first b i (cells_of size n ps x) f y c (λ j k. at_frame j (omega arith) ∙ h j k);
-        frame = frame_first (slot b i) 0 (cells_of size n ps x) f (omega (arith, length_cells size n ps x)) (at_frame f l ∙ t) (λ j k. at_frame j (omega arith) ∙ h j k) ∙ ap some z;
+        frame = frame_first (slot b i) 0 (cells_of size n ps x) f (omega (arith, length_cells size n ps x)) (at_frame f l ∙ t) (λ j k. at_frame j (omega arith) ∙ h j k) ∙ ap Some z;
       }
 
   -- a frame is found: the page is present, with that frame's bytes
-  pub located : (f : ℕ) → places.frame_at b i 0 (take n ps) ≡ At f → Located size n ps x b i f
+  pub located : (f : ℕ) → places.frame_at b i 0 (take n ps) ≡ Some f → Located size n ps x b i f
   located f e =
       let F = frame_found b i 0 (take n ps) f e in
       let q : f ≡ F.at = omega (arith, F.number) in
       rw q (located_first F.at (omega (arith, F.inside, length-take-le n ps m)) F.stands F.before)
 
   -- nothing is found: the page is absent
-  pub absent_there : places.frame_at b i 0 (take n ps) ≡ Nothing → (bytes_at (slot b i) (cells_of size n ps x) ≡ none) × (cell.frame_at (slot b i) 0 (cells_of size n ps x) ≡ none)
+  pub absent_there : places.frame_at b i 0 (take n ps) ≡ None → (bytes_at (slot b i) (cells_of size n ps x) ≡ None) × (cell.frame_at (slot b i) 0 (cells_of size n ps x) ≡ None)
   absent_there e =
       let t = length-take-le n ps m in
       let c = length_cells size n ps x in

@@ -1,11 +1,10 @@
 -- THE PAGE STEP OF A STORE: places trimmed, the slot vacated, the highest free frame placed there and taken out of the map. It is the book's `settle`.
-use Rattle.std.specs.Prelude.{◌≡◌, ℕ, ◌≤◌, ◌<◌, take, drop, set}
+use Rattle.std.specs.Prelude.{◌≡◌, ℕ, ◌≤◌, ◌<◌, take, drop, set, Some}
 use Rattle.std.proofs.Common.{ap, ap₂, sym, ◌∙◌, arith}
 use mathlib.Core.List.{List, ◌++◌, map, head_d, tail}
 use Rattle.std.proofs.Math.ListN.{length}
 use Rattle.std.proofs.lemmas.List.{length-map}
 use Rattle.std.proofs.Math.Seq.{length_front}
-use Rattle.frames.specs.declared.Frame.TheVariants.{At}
 use Rattle.places.specs.declared.Place.{Place}
 use Rattle.store.specs.declared.Store.{Store}
 use Rattle.lists.specs.Test.{by-eq, by-test}
@@ -82,7 +81,7 @@ pub record Settled (s t : Store) (x y : List ℕ) (n : Range) (i f : ℕ) (z : L
   pub frames : t.frames ≡ s.frames
   pub ranges : ranges_of (used t) ≡ put n (ranges_of (used s))
   pub places : t.places ≡ settled s.frames (ranges_of (used t)) f n.backing i s.places
-  pub highest : highest_below s.free 1024 ≡ At f
+  pub highest : highest_below s.free 1024 ≡ Some f
   pub taken : TakenOut s.free f t.free
   pub others : (k : ℕ) → (k ≡ f → ⊥) → frame_at 4096 y k ≡ frame_at 4096 x k
   pub bytes : frame_at 4096 y f ≡ z

@@ -1,14 +1,12 @@
 -- A sound store's table of ranges is a table in order, and the range that covers a page is found in it.
 use Rattle.std.proofs.Math.Path.{◌≡◌, refl, ap}
 use Rattle.std.proofs.Common.{◌∙◌, arith, get_or-take}
-use Rattle.std.proofs.Math.Option.{none, some}
-use Rattle.std.specs.Prelude.{List, [], ◌∷◌, map, take, get_or}
+use Rattle.std.specs.Prelude.{List, [], ◌∷◌, map, take, get_or, Some, None}
 use Prim.Native.Nat.{ℕ, zero, suc, ◌≤◌, ◌<◌}
 use Rattle.std.proofs.Math.ListN.{get_or-map}
 use borrow.Author.Tests.{lt-ltb, le-ltb, le-leb}
 use Rattle.table.specs.declared.PageRange.{PageRange}
 use Rattle.table.specs.declared.BackingPages.{BackingPages}
-use Rattle.table.specs.declared.Found.TheVariants.{At, Missing}
 use Rattle.lists.specs.Test.{by-lt}
 use Rattle.ranges.specs.Range.{Range, Ranged, from, upto, slot_in, slot_at}
 use Rattle.ranges.specs.Reback.{reback, reback_rising}
@@ -47,40 +45,40 @@ module _ (R : List PageRange) (count : ℕ) (T : Table R count) (g : ℕ) where
     pub inside : k < count
     pub low : from (ranged (get_or R k zero_range)) ≤ g
     pub high : g < upto (ranged (get_or R k zero_range))
-    pub slot : slot_at g rs ≡ some (slot_in g (range_of (get_or R k zero_range)))
+    pub slot : slot_at g rs ≡ Some (slot_in g (range_of (get_or R k zero_range)))
 
   pub last_at : (k : ℕ) → starts_before (suc g) us ≡ suc k → (k < count) × (from (ranged (get_or R k zero_range)) ≤ g)
   last_at k e =
       let h : k < count = omega (arith, starts_count R count T (suc g)) in
       (h, omega (arith, starts_in (ranged zero_range) (suc g) k us (omega arith), ap (λ r. from r) (used_at R count T k h)))
 
-  pub covered_missing : covering_at g us ≡ Missing → slot_at g rs ≡ none
+  pub covered_missing : covering_at g us ≡ None → slot_at g rs ≡ None
   unfolding covering_at
   covered_missing e = at_slot ∙ go (starts_before (suc g) us) refl e
     where
-      go : (n : ℕ) → starts_before (suc g) us ≡ n → reaching g us n ≡ Missing → slot_of g (last_of (range_of zero_range) n rs) ≡ none
+      go : (n : ℕ) → starts_before (suc g) us ≡ n → reaching g us n ≡ None → slot_of g (last_of (range_of zero_range) n rs) ≡ None
       go zero m f = refl
       go (suc k) m f =
           let L = last_at k m in
           by-lt g (upto (ranged (get_or R k zero_range)))
           (λ u. absurd
           (let v : g < upto (get_or us k (ranged zero_range)) = omega (arith, ap (λ r. upto r) (used_at R count T k L.0)) in
-          let w : At k ≡ Missing = rw (lt-ltb g (upto (get_or us k (ranged zero_range))) v) at f in
+          let w : Some k ≡ None = rw (lt-ltb g (upto (get_or us k (ranged zero_range))) v) at f in
           let z : ◌≡◌ {A = ℕ} 0 1 = cc in omega arith))
           (λ u. rw (range_at_lem k L.0, le-leb (from (ranged (get_or R k zero_range))) g L.1, le-ltb g (upto (ranged (get_or R k zero_range))) u))
 
-  pub covered_at : (k : ℕ) → covering_at g us ≡ At k → Covered k
+  pub covered_at : (k : ℕ) → covering_at g us ≡ Some k → Covered k
   unfolding covering_at
   covered_at k e = go (starts_before (suc g) us) refl e
     where
-      go : (n : ℕ) → starts_before (suc g) us ≡ n → reaching g us n ≡ At k → Covered k
+      go : (n : ℕ) → starts_before (suc g) us ≡ n → reaching g us n ≡ Some k → Covered k
       go zero m f = absurd (let z : ◌≡◌ {A = ℕ} 0 1 = cc in omega arith)
       go (suc j) m f =
           let L = last_at j m in
           by-lt g (upto (ranged (get_or R j zero_range)))
           (λ u.
           let v : g < upto (get_or us j (ranged zero_range)) = omega (arith, ap (λ r. upto r) (used_at R count T j L.0)) in
-          let w : At j ≡ At k = rw (lt-ltb g (upto (get_or us j (ranged zero_range))) v) at f in
+          let w : Some j ≡ Some k = rw (lt-ltb g (upto (get_or us j (ranged zero_range))) v) at f in
           let z : j ≡ k = cc in
           rw (← z) (record {
             inside = L.0;
@@ -91,5 +89,5 @@ module _ (R : List PageRange) (count : ℕ) (T : Table R count) (g : ℕ) where
           }))
           (λ u. absurd
           (let v : upto (get_or us j (ranged zero_range)) ≤ g = omega (arith, ap (λ r. upto r) (used_at R count T j L.0)) in
-          let w : Missing ≡ At k = rw (le-ltb g (upto (get_or us j (ranged zero_range))) v) at f in
+          let w : None ≡ Some k = rw (le-ltb g (upto (get_or us j (ranged zero_range))) v) at f in
           let z : ◌≡◌ {A = ℕ} 0 1 = cc in omega arith))

@@ -5,7 +5,7 @@ use places::Place;
 use table::PageRange;
 
 // "The store is one record by value, whose fields hold a table of 512 ranges and all page vectors." Any value of the type may come in.
-#[derive(Clone, Copy)]
+#[derive(Clone, Copy, PartialEq, Eq)]
 pub struct Store {
     // how many frames there are, numbered from 0
     pub frames: usize,

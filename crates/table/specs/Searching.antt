@@ -1,5 +1,5 @@
 -- The searches in the table, from what their loops know.
-use Rattle.std.specs.Prelude.{◌≡◌, List, ℕ, suc, ◌+◌, ◌-◌, ◌≤◌, ◌<◌, length, get_or, take, eqb, ltb}
+use Rattle.std.specs.Prelude.{◌≡◌, List, ℕ, suc, ◌+◌, ◌-◌, ◌≤◌, ◌<◌, length, get_or, take, eqb, ltb, Option, Some, None}
 use Rattle.std.proofs.Math.Path.{ap}
 use Rattle.std.proofs.Common.{sym, ◌∙◌, arith, get_or-take, add-one, eq-eqb, ne_eqb, lt-ltb, le-ltb}
 use Rattle.std.proofs.Math.ListN.{length-map, get_or-map}
@@ -9,10 +9,7 @@ use Rattle.ranges.specs.Range.{Ranged, from, upto}
 use Rattle.ranges.specs.Search.{starts_before, ends_by, starts_few, starts_is, rising_next, rising_full, ends_none, ends_cut, ends_whole}
 use Rattle.table.specs.declared.PageRange.{PageRange}
 use Rattle.table.specs.declared.BackingPages.{BackingPages}
-use Rattle.table.specs.declared.Begun.{Begun}
 use Rattle.table.specs.Table.{Table, Small, ranged, ranged_of, zero_range, covering_at, reaching}
-use Rattle.table.specs.declared.Found.{Found}
-use Rattle.table.specs.declared.Found.TheVariants.{At, Missing}
 
 module _ (R : List PageRange) (count : ℕ) (T : Table R count) where
   abbrev used : List (Ranged BackingPages)
@@ -77,56 +74,17 @@ module _ (R : List PageRange) (count : ℕ) (T : Table R count) where
   unfolding covering_at
   reached g n e = ap (λ k. reaching g used (starts_before k used)) (sym (add-one g)) ∙ ap (λ k. reaching g used k) (sym e)
 
-  pub none_before : (g n : ℕ) → n ≡ starts_before (g + 1) used → n ≡ 0 → Missing ≡ covering_at g used
+  pub none_before : (g n : ℕ) → n ≡ starts_before (g + 1) used → n ≡ 0 → None ≡ covering_at g used
   none_before g n e z = sym (reached g n e ∙ ap (λ k. reaching g used k) z)
 
-  pub covers_it : (g n : ℕ) → n ≡ starts_before (g + 1) used → (n ≡ 0 → ⊥) → g < upto (ranged (get_or R (n - 1) zero_range)) → At (n - 1) ≡ covering_at g used
+  pub covers_it : (g n : ℕ) → n ≡ starts_before (g + 1) used → (n ≡ 0 → ⊥) → g < upto (ranged (get_or R (n - 1) zero_range)) → Some (n - 1) ≡ covering_at g used
   covers_it g n e z h =
       let m : n ≡ suc (n - 1) = omega arith in
       let u : g < upto (get_or used (n - 1) (ranged zero_range)) = omega (arith, ap (λ r. upto r) (used_at (n - 1) (omega (arith, starts_count (g + 1))))) in
       sym (reached g n e ∙ ap (λ k. reaching g used k) m ∙ rw (lt-ltb g (upto (get_or used (n - 1) (ranged zero_range))) u))
 
-  pub ends_short : (g n : ℕ) → n ≡ starts_before (g + 1) used → (n ≡ 0 → ⊥) → upto (ranged (get_or R (n - 1) zero_range)) ≤ g → Missing ≡ covering_at g used
+  pub ends_short : (g n : ℕ) → n ≡ starts_before (g + 1) used → (n ≡ 0 → ⊥) → upto (ranged (get_or R (n - 1) zero_range)) ≤ g → None ≡ covering_at g used
   ends_short g n e z h =
       let m : n ≡ suc (n - 1) = omega arith in
       let u : upto (get_or used (n - 1) (ranged zero_range)) ≤ g = omega (arith, ap (λ r. upto r) (used_at (n - 1) (omega (arith, starts_count (g + 1))))) in
       sym (reached g n e ∙ ap (λ k. reaching g used k) m ∙ rw (le-ltb g (upto (get_or used (n - 1) (ranged zero_range))) u))
-
--- ---- what a search finds: how many ranges begin before a page, and the last of them
-
-pub record BegunIs (l : List PageRange) (n g : ℕ) (b : Begun) : Type 0 where
-  pub count : b.count ≡ starts_before g (ranged_of (take n l))
-  pub last : 0 < b.count → b.last ≡ get_or l (b.count - 1) zero_range
-
--- the last one, if it reaches past page g
-abbrev pub reach_of : Begun → ℕ → Found
-reach_of b g = pick (eqb b.count 0) Missing (pick (ltb g (upto (ranged b.last))) (At (b.count - 1)) Missing)
-
-module _ (l : List PageRange) (n g : ℕ) (T : Table l n) (b : Begun) (B : BegunIs l n (g + 1) b) where
-  pub begun_small : 0 < b.count → Small b.last
-  begun_small h = rw (B.last h) (T.small (b.count - 1) (omega (arith, B.count, starts_count l n T (g + 1))))
-
-  pub reach_told : reach_of b g ≡ covering_at g (ranged_of (take n l))
-  reach_told =
-      by-eq b.count 0
-      (λ z. rw (eq-eqb b.count 0 z) (none_before l n T g b.count B.count z))
-      (λ z.
-      let q = B.last (omega arith) in
-      by-lt g (upto (ranged b.last))
-      (λ h. rw (ne_eqb b.count 0 z, lt-ltb g (upto (ranged b.last)) h) (covers_it l n T g b.count B.count z (rw q at h)))
-      (λ h. rw (ne_eqb b.count 0 z, le-ltb g (upto (ranged b.last)) h) (ends_short l n T g b.count B.count z (rw q at h))))
-
-  -- the range that covers the page is the last one
-  pub reach_last : (k : ℕ) → reach_of b g ≡ At k → b.last ≡ get_or l k zero_range
-  reach_last k e =
-      by-eq b.count 0
-      (λ z. let j : Missing ≡ At k = rw (eq-eqb b.count 0 z) at e in absurd (let w : ◌≡◌ {A = ℕ} 0 1 = cc in omega arith))
-      (λ z.
-      by-lt g (upto (ranged b.last))
-      (λ h.
-      let j : At (b.count - 1) ≡ At k = rw (ne_eqb b.count 0 z, lt-ltb g (upto (ranged b.last)) h) at e in
-      let w : b.count - 1 ≡ k = cc in
-      B.last (omega arith) ∙ ap (λ (i : ℕ). get_or l i zero_range) w)
-      (λ h.
-      let j : Missing ≡ At k = rw (ne_eqb b.count 0 z, le-ltb g (upto (ranged b.last)) h) at e in
-      absurd (let w : ◌≡◌ {A = ℕ} 0 1 = cc in omega arith)))

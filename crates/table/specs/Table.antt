@@ -1,16 +1,12 @@
 -- The store's table of ranges, as a table of the book.
-use Rattle.std.specs.Prelude.{◌≡◌, List, [], ◌∷◌, map, ℕ, zero, suc, ◌+◌, ◌≤◌, ◌<◌, length, take, get_or, ltb}
+use Rattle.std.specs.Prelude.{◌≡◌, List, [], ◌∷◌, map, ℕ, zero, suc, ◌+◌, ◌≤◌, ◌<◌, length, take, get_or, ltb, Option, Some, None}
 use Rattle.lists.specs.Test.{pick}
 use Rattle.ranges.specs.Range.{Range, Ranged, upto, front, back, Rising}
 use Rattle.ranges.specs.Search.{starts_before}
 use Rattle.ranges.specs.Reback.{reback}
 use Rattle.table.specs.declared.PageRange.{PageRange}
 use Rattle.table.specs.declared.BackingPages.{BackingPages}
-use Rattle.table.specs.declared.Piece.{Piece}
-use Rattle.table.specs.declared.Piece.TheVariants.{Empty, Part}
 use Rattle.table.specs.declared.Pieces.{Pieces}
-use Rattle.table.specs.declared.Found.{Found}
-use Rattle.table.specs.declared.Found.TheVariants.{At, Missing}
 use Rattle.table.specs.declared.BackingPages.TheVariants.{Nothing, Single, Many}
 
 -- a backing's number; 0 where there is none
@@ -52,9 +48,9 @@ pub record Table (R : List PageRange) (count : ℕ) : Type 0 where
   pub rising : Rising 0 (ranged_of (take count R))
 
 -- a part of a range, as a list
-abbrev pub parts_of : Piece → List (Ranged BackingPages)
-parts_of Empty = []
-parts_of (Part r) = ranged r ∷ []
+abbrev pub parts_of : Option PageRange → List (Ranged BackingPages)
+parts_of None = []
+parts_of (Some r) = ranged r ∷ []
 
 -- the two parts of a range cut by the pages from a up to e
 pub record Cut (q : Pieces) (a e : ℕ) (r : Ranged BackingPages) : Type 0 where
@@ -62,9 +58,9 @@ pub record Cut (q : Pieces) (a e : ℕ) (r : Ranged BackingPages) : Type 0 where
   pub after : parts_of q.after ≡ back e r
 
 -- the place of the range that covers page g: the last that begins at or before it, if that reaches so far
-abbrev pub reaching : ℕ → List (Ranged BackingPages) → ℕ → Found
-reaching g rs zero = Missing
-reaching g rs (suc k) = pick (ltb g (upto (get_or rs k (ranged zero_range)))) (At k) Missing
+abbrev pub reaching : ℕ → List (Ranged BackingPages) → ℕ → Option ℕ
+reaching g rs zero = None
+reaching g rs (suc k) = pick (ltb g (upto (get_or rs k (ranged zero_range)))) (Some k) None
 
-unfoldable pub covering_at : ℕ → List (Ranged BackingPages) → Found
+unfoldable pub covering_at : ℕ → List (Ranged BackingPages) → Option ℕ
 covering_at g rs = reaching g rs (starts_before (suc g) rs)

@@ -15,7 +15,7 @@ use Rattle.places.specs.Places.{nowhere}
 use Rattle.store.specs.declared.Store.{Store}
 use Rattle.store.specs.Trim.{kept_place}
 use Rattle.store.specs.Abs.{used}
-use Rattle.sheet.specs.Sheet.{with_places}
+use Rattle.store.specs.With.{with_places}
 use Rattle.window_search.specs.Windows.{met_named, Met}
 use Rattle.window_cover.specs.Intervals.{covered, shown_covered, Shown}
 

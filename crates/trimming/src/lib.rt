@@ -1,11 +1,11 @@
 // TRIMMING: places in no window go, each frame looked at once.
 #![tactic(auto)]
 
-ghost use Rattle.std.specs.Prelude.{◌≡◌, ◌≤◌, ◌<◌, ◌&&◌, MatchResult, eqb, length, map, take};
+ghost use Rattle.std.specs.Prelude.{◌≡◌, ◌≤◌, MatchResult, length, map, take};
 ghost use Rattle.table.specs.Table.{ranges_of};
 ghost use Rattle.store.specs.Abs.{used};
 ghost use Rattle.store.specs.Edits.{trimmed};
-ghost use Rattle.sheet.specs.Sheet.{with_places};
+ghost use Rattle.store.specs.With.{with_places};
 ghost use Rattle.lists.specs.Mapped.{mapped};
 ghost use Rattle.window_cover.specs.Intervals.{Indexed};
 ghost use Rattle.trimming.specs.Trimming.{kept, kept_covered};
@@ -15,19 +15,6 @@ use store::Store;
 use table::PageRange;
 use window_cover::Cover;
 use window_search::{GaveUp, Windows};
-
-// The place of a free frame.
-const NOWHERE: Place = Place {
-    backing: 0,
-    index: 0,
-};
-
-// Whether the place is that of a free frame.
-fn is_nowhere(p: Place) -> bool
-    ensures { result ≡ (eqb p.backing 0 && eqb p.index 0) }
-{
-    (p.backing == 0) & (p.index == 0)
-}
 
 // Each place kept if a range has it in its window, else made nowhere. Windows are searched for in 1,024 steps, from the range that was found last; the error is the
 // frame at which no step was left, up to which that is done.
@@ -39,7 +26,7 @@ fn trim_along(places: &mut [Place], windows: &Windows) -> Result<(), usize>
     let mut steps = 1024;
     let mut last = None;
     for (f, p) in places.iter_mut().enumerate() {
-        if is_nowhere(*p) {
+        if *p == Place::NOWHERE {
             continue;
         }
         let Ok(found) = windows.search(last, *p, &mut steps) else {
@@ -47,7 +34,7 @@ fn trim_along(places: &mut [Place], windows: &Windows) -> Result<(), usize>
         };
         match found {
             Some(_) => last = found,
-            None => *p = NOWHERE,
+            None => *p = Place::NOWHERE,
         }
     }
     Ok(())
@@ -58,10 +45,10 @@ fn kept_by(cover: &Cover, p: Place) -> Place
     requires { Indexed cover.now }
     ensures { result ≡ kept_covered cover.now p }
 {
-    if is_nowhere(p) || cover.find(p).is_some() {
+    if p == Place::NOWHERE || cover.find(p).is_some() {
         p
     } else {
-        NOWHERE
+        Place::NOWHERE
     }
 }
 

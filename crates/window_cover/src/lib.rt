@@ -8,7 +8,7 @@ ghost use Rattle.ranges.specs.Table.{named};
 ghost use Rattle.places.specs.declared.Place.{Place};
 ghost use Rattle.window_cover.specs.Intervals.{within, meets, united, key_of, covered, First, Filed, Put, Entered, Indexed, Shown};
 
-use charts::Chains;
+use chains::Chains;
 use places::Place;
 use table::PageRange;
 use window_search::slot;
@@ -27,7 +27,7 @@ impl Interval {
         ensures { MatchOption result (r.length ≡ 0) (λ a. (a.first < a.end) × (a.end < 8589934592) × (a ≡ record { backing = number_of r.backing; first = r.offset; end = r.offset + r.length })) }
     {
         let interval = Interval {
-            backing: table::number(r.backing),
+            backing: r.backing.number(),
             first: r.offset,
             end: r.offset as usize + r.length as usize,
         };
@@ -100,6 +100,7 @@ impl Cover {
         ensures first { (chain : ℕ → ℕ) → Filed chain self.now → First (F.post test) chain self.now h result }
     {
         let mut at = slot(self.chains.heads[h]);
+        // by hand: a chain is of indices, since memory is fixed
         while let Some(i) = at {
             if test(self.intervals[i]) {
                 return Some(i);

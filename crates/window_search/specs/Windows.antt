@@ -8,7 +8,7 @@ use Rattle.std.proofs.Math.Seq.{take-suc}
 use mathlib.Core.List.{map, map-append}
 use Rattle.table.specs.declared.PageRange.{PageRange}
 use Rattle.places.specs.declared.Place.{Place}
-use Rattle.charts.specs.declared.Chains.{Chains}
+use Rattle.chains.specs.declared.Chains.{Chains}
 use Rattle.lists.specs.Test.{by-eq, by-lt}
 use Rattle.lists.specs.Every.{all_below, below_fails}
 use Rattle.ranges.specs.Range.{Range}

@@ -5,7 +5,7 @@ ghost use Rattle.std.specs.Prelude.{◌≡◌, ◌+◌, ◌%◌, ◌≤◌, ◌<
 ghost use Rattle.charts.specs.Charts.{RangeChains};
 ghost use Rattle.window_search.specs.Windows.{in_window, link_of, Falls, Found, Hit, Met};
 
-use charts::Chains;
+use chains::Chains;
 use places::Place;
 use table::PageRange;
 
@@ -48,7 +48,7 @@ pub fn chains_of(ranges: &[PageRange; 512], count: usize) -> Chains
 {
     let mut chains = Chains::new();
     for i in 0..count {
-        chains.put(charts::chain_by(table::number(ranges[i].backing)), i);
+        chains.put(charts::chain_by(ranges[i].backing.number()), i);
     }
     chains
 }
@@ -59,7 +59,7 @@ impl Windows<'_> {
         requires { i < 512 }
         ensures { result ≡ in_window self.now.ranges.now place i }
     {
-        table::in_window(self.ranges[i], place.backing, place.index)
+        self.ranges[i].in_window(place.backing, place.index)
     }
 
     // The first slot, from this one on along its chain, whose range has the place in its window. Each slot that is passed costs a step.
@@ -73,6 +73,7 @@ impl Windows<'_> {
         ensures { IfOk result (Found self.now.ranges.now self.now.chains.now.next place (link_of from)) }
     {
         let mut at = from;
+        // by hand: a chain is of indices, since memory is fixed
         while let Some(i) = at {
             if self.has(i, place) {
                 return Ok(Some(i));
@@ -123,13 +124,14 @@ impl Windows<'_> {
     }
 
     // The slot to begin at: the hint, if its range is one of the backing, else the first of the chain.
-    fn begin_at(&self, hint: Option<usize>, first: Option<usize>, backing: u32) -> Option<usize>
-        requires hinted { IfSome hint (λ i. i < self.now.count) }
-        requires low { link_of first ≤ self.now.count }
-        ensures { MatchOption result (first ≡ None) (λ i. i < self.now.count) }
+    fn begin_at(&self, hint: Option<usize>, backing: u32) -> Option<usize>
+        requires { IfSome hint (λ i. i < self.now.count) }
+        ensures { MatchOption result (get_or self.now.chains.now.heads (backing % 1024) 0 ≡ 0) (λ i. i < self.now.count) }
     {
-        hint.filter(|i| table::number(self.ranges[*i].backing) == backing)
-            .or(first)
+        match hint {
+            Some(i) if self.ranges[i].backing.number() == backing => hint,
+            _ => self.first(backing),
+        }
     }
 
     // The slot of a range that has the place in its window, or none where there is none: beside the hint, or the first slot of the chain; then by the guess, which
@@ -143,8 +145,7 @@ impl Windows<'_> {
         requires { IfSome hint (λ i. i < self.now.count) }
         ensures { IfOk result (Met self.now.ranges.now self.now.count place) }
     {
-        let first = self.first(place.backing);
-        let Some(i) = self.begin_at(hint, first, place.backing) else {
+        let Some(i) = self.begin_at(hint, place.backing) else {
             return Ok(None);
         };
         if let Some(found) = self.beside(i, place) {
@@ -154,6 +155,6 @@ impl Windows<'_> {
         if let Some(found) = self.guess(i, place) {
             return Ok(Some(found));
         }
-        self.walk(first, place, steps)
+        self.walk(self.first(place.backing), place, steps)
     }
 }

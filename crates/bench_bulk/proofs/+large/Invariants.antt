@@ -2,4 +2,4 @@
 use Rattle.bench_bulk.proofs.+large.Given as goal
 
 abbrev pub decreases-large : goal.decreases-large
-decreases-large l = l.rounds
+decreases-large g l = l.rounds

@@ -1,11 +1,17 @@
-use Rattle.calls.specs.Made.{frames_in, made, not_made}
+-- `calls::create` meets its contract.
+use Rattle.std.proofs.Common.{◌≡◌, true, false, sym, ◌∙◌, rules}
+use Rattle.std.specs.Prelude.{leb, ◌&&◌}
+use Rattle.calls.specs.Made.{made, not_made}
 use Rattle.calls.proofs.create.Goals as goal
 
-pub empty_store-t-requires : goal.empty_store-t-requires
-empty_store-t-requires c = (frames_in c.args.frames c.if-frames.true).1
-
-pub returns-then-frames : goal.returns-then-frames
-returns-then-frames c = made c.empty_store-t.result c.empty_store-t.ensures.0 c.args.frames c.empty_store-t.ensures.1 c.if-frames.true
+pub returns-then-contains : goal.returns-then-contains
+returns-then-contains c =
+    let E = c.empty_store.ensures in
+    let b : (leb 1 c.args.frames && leb c.args.frames 1024) ≡ true = search rules in
+    made c.empty_store.result E.0 E.2 c.args.frames E.1 b
 
 pub returns : goal.returns
-returns c = not_made c.empty_store-t-2.result c.empty_store-t-2.ensures.0 c.args.frames c.empty_store-t-2.ensures.1 c.if-frames.false
+returns c =
+    let E = c.empty_store-2.ensures in
+    let b : (leb 1 c.args.frames && leb c.args.frames 1024) ≡ false = search rules in
+    not_made c.empty_store-2.result E.0 E.2 c.args.frames E.1 b

@@ -1,40 +1,26 @@
 -- `calls::new_object` meets its contract.
-use mathlib.Core.Path.{◌≡◌, refl, sym, ◌∙◌}
-use mathlib.Core.List.{List}
-use Prim.Native.Nat.{ℕ}
+use Rattle.std.proofs.Common.{◌≡◌, refl, Err, rules}
 use Rattle.book.specs.Book.{new_object, done}
-use Rattle.refuse.specs.Refuse.{refusal}
-use Rattle.enter.specs.Enter.{refuses, tried}
-use Rattle.calls.specs.Calls.{did_refused}
-use Rattle.calls.specs.Each.{new_done, new_name}
-use native.Mathlib.Omega.{arith}
-use Rattle.sound.specs.Parts.{brought}
+use Rattle.calls.specs.Calls.{did_decline, did_not_enter}
+use Rattle.calls.specs.Each.{new_name, new_done}
 use Rattle.calls.proofs.new_object.Goals as goal
 
-pub new_object-k-requires : goal.new_object-k-requires
-new_object-k-requires c = λ t. ((tried (c.examine-ok.ensures _ (brought c.load.ensures c.rows-rows.ensures))).enters t).sound
-
-pub returns-then-k-gt0 : goal.returns-then-k-gt0
-returns-then-k-gt0 c =
+pub returns-in_err-enter : goal.returns-in_err-enter
+returns-in_err-enter c =
     let a = c.args in
-    let q = c.new_object-k in
-    let T = tried (c.examine-ok.ensures _ (brought c.load.ensures c.rows-rows.ensures)) in
-    did_refused (new_object a.object) a.s done q.result c.if-k-gt0.true (λ x. refuses T x _ (q.ensures x)) (λ j. refl)
+    let e = c.in_err-enter in
+    let q : c.from_residual.result ≡ Err e.field-0.0 = search rules in
+    rw q (did_not_enter (new_object a.object) a.s done (λ j. refl) e.field-0.0 e.ensures.tried)
 
-pub overflow_shl-result : goal.overflow_shl-result
-overflow_shl-result c =
+pub returns-in_err-new_object : goal.returns-in_err-new_object
+returns-in_err-new_object c =
     let a = c.args in
-    let q = c.new_object-k in
-    let T = tried (c.examine-ok.ensures _ (brought c.load.ensures c.rows-rows.ensures)) in
-    let k : q.result ≡ 0 = omega (arith, c.if-k-gt0.false) in
-    let r : (x : List ℕ) → 0 ≡ refusal a.s x (new_object a.object) = λ x. sym k ∙ refuses T x _ (q.ensures x) in
-    new_name a.s a.object r
+    let e = c.in_err-new_object in
+    let q : c.from_residual-in_err-new_object.result ≡ Err e.field-0.0 = search rules in
+    rw q (did_decline (new_object a.object) a.s done (λ j. refl) e.field-0.0 (rw c.in_ok-enter.ensures.same at e.ensures))
+
+pub overflow_shl-s : goal.overflow_shl-s
+overflow_shl-s c = new_name c.args.s c.args.object (rw c.in_ok-enter.ensures.same at c.in_ok-new_object.ensures)
 
 pub returns : goal.returns
-returns c =
-    let a = c.args in
-    let q = c.new_object-k in
-    let T = tried (c.examine-ok.ensures _ (brought c.load.ensures c.rows-rows.ensures)) in
-    let k : q.result ≡ 0 = omega (arith, c.if-k-gt0.false) in
-    let r : (x : List ℕ) → 0 ≡ refusal a.s x (new_object a.object) = λ x. sym k ∙ refuses T x _ (q.ensures x) in
-    new_done a.s T.sized a.object r
+returns c = new_done c.args.s c.enter.ensures.tried.sized c.args.object (rw c.in_ok-enter.ensures.same at c.in_ok-new_object.ensures)

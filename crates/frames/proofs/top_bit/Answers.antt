@@ -7,11 +7,10 @@ use Rattle.frames.proofs.Laws.{top_of}
 use Rattle.frames.proofs.top_bit.Goals as goal
 
 pub overflow_sub-result : goal.overflow_sub-result
-overflow_sub-result c = omega (arith, (leading_top 64 c.args.w c.requires c.ranges.w.fits).1, c.zeros_above-z.ensures)
+overflow_sub-result c = omega (arith, (leading_top 64 c.args.w c.requires c.ranges.w.fits).1)
 
 pub returns : goal.returns
 returns c =
     let w = c.args.w in
     let t = leading_top 64 w c.requires c.ranges.w.fits in
-    let e : c.zeros_above-z.result + suc t.0 ≡ 64 = omega (arith, t.1, c.zeros_above-z.ensures) in
-    top_of w _ t.0 e t.2 t.3
+    top_of w _ t.0 t.1 t.2 t.3

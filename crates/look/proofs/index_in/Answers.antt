@@ -4,4 +4,4 @@ use Prim.Native.Nat.{◌+◌, ◌-◌}
 use Rattle.look.proofs.index_in.Goals as goal
 
 pub returns : goal.returns
-returns c = let a = c.args in ap (λ z. a.r.offset + (a.g - z)) c.first-s.ensures
+returns c = let a = c.args in ap (λ z. a.r.offset + (a.g - z)) c.first.ensures

@@ -28,7 +28,7 @@ settle-requires-clause-lodged c =
 pub settle-requires-clause-room : goal.settle-requires-clause-room
 settle-requires-clause-room c =
     let I = c.requires.0 in
-    let b = frame_below c.args.s.now c.args.pool.now I c.in-At.f (sym c.in-At.ensures) in
+    let b = frame_below c.args.s.now c.args.pool.now I c.in-Some.f (sym c.in-Some.ensures) in
     (c.requires.3, omega (arith, I.few_frames))
 
 pub zero_frame-requires : goal.zero_frame-requires
@@ -36,7 +36,7 @@ zero_frame-requires c =
     let s = c.args.s.now in
     let x = c.args.pool.now in
     let I = c.requires.0 in
-    frame_inside s x I c.in-At.f (frame_below s x I c.in-At.f (sym c.in-At.ensures))
+    frame_inside s x I c.in-Some.f (frame_below s x I c.in-Some.f (sym c.in-Some.ensures))
 
 pub returns : goal.returns
 returns c =
@@ -44,7 +44,7 @@ returns c =
     let s = a.s.now in
     let x = a.pool.now in
     let q = c.requires in
-    let hf = sym c.in-At.ensures in
+    let hf = sym c.in-Some.ensures in
     let t = c.settle.new.s in
-    let P : Placed s (spot_of s a.object a.page.0) c.in-At.f t = subst (λ (k : Spot). Placed s k c.in-At.f t) c.spot_of-q.ensures c.settle.ensures in
-    (add_stepped s x q.0 a.object a.page.0 q.1 c.in-At.f hf t _ P c.zero_frame.ensures, sym (next_frame s x q.0 c.in-At.f hf))
+    let P : Placed s (spot_of s a.object a.page.0) c.in-Some.f t = subst (λ (k : Spot). Placed s k c.in-Some.f t) c.spot_of-q.ensures c.settle.ensures in
+    (add_stepped s x q.0 a.object a.page.0 q.1 c.in-Some.f hf t _ P c.zero_frame.ensures, sym (next_frame s x q.0 c.in-Some.f hf))

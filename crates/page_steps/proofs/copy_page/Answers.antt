@@ -25,7 +25,7 @@ pub settle-requires-clause-room : goal.settle-requires-clause-room
 settle-requires-clause-room c =
     let q = c.requires.room in
     let I = q.0 in
-    let b = frame_below c.args.s.now c.args.pool.now I c.in-At.f (sym c.in-At.ensures) in
+    let b = frame_below c.args.s.now c.args.pool.now I c.in-Some.f (sym c.in-Some.ensures) in
     (q.3, omega (arith, I.few_frames))
 
 pub copy_frame-requires : goal.copy_frame-requires
@@ -33,7 +33,7 @@ copy_frame-requires c =
     let s = c.args.s.now in
     let x = c.args.pool.now in
     let I = c.requires.room.0 in
-    (frame_inside s x I c.in-At.f (frame_below s x I c.in-At.f (sym c.in-At.ensures)), frame_inside s x I c.args.from c.requires.present.0.has.below)
+    (frame_inside s x I c.in-Some.f (frame_below s x I c.in-Some.f (sym c.in-Some.ensures)), frame_inside s x I c.args.from c.requires.present.0.has.below)
 
 pub returns : goal.returns
 returns c =
@@ -41,5 +41,5 @@ returns c =
     let s = a.s.now in
     let q = c.requires in
     let t = c.settle.new.s in
-    let P : Placed s (own_spot s a.object a.page.0) c.in-At.f t = subst (λ (k : Spot). Placed s k c.in-At.f t) c.own_spot-q.ensures c.settle.ensures in
-    copy_stepped s a.pool.now q.room.0 a.object a.page.0 q.room.1 c.in-At.f (sym c.in-At.ensures) t _ a.from q.present.0 q.present.1 P c.copy_frame.ensures
+    let P : Placed s (own_spot s a.object a.page.0) c.in-Some.f t = subst (λ (k : Spot). Placed s k c.in-Some.f t) c.own_spot-q.ensures c.settle.ensures in
+    copy_stepped s a.pool.now q.room.0 a.object a.page.0 q.room.1 c.in-Some.f (sym c.in-Some.ensures) t _ a.from q.present.0 q.present.1 P c.copy_frame.ensures

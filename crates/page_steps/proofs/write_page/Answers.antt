@@ -10,4 +10,4 @@ returns c =
     let q = c.requires in
     let b = a.bytes.now in
     let e : take (length b) b ≡ b = take-length b in
-    rw e at (write_wrote a.s.now a.pool.now q.room.0 a.object a.offset q.room.1 _ _ c.from_offset.ensures c.place.ensures _ _ _ c.make_writable-f.ensures b (length b) q.within (search rules) _ c.copy_in.ensures)
+    rw e at (write_wrote a.s.now a.pool.now q.room.0 a.object a.offset q.room.1 _ _ c.from_offset.ensures c.place.ensures _ _ _ c.make_writable-f.ensures b (length b) q.within (search rules) _ c.copy.ensures)

@@ -15,8 +15,8 @@ bounds-s-p c =
     let o = met_within s c.requires.table.0 _ _ _ _ c.requires.span.0 c.ends_by-p.ensures c.starts_before-q.ensures in
     omega arith
 
-pub front_of-before-requires : goal.front_of-before-requires
-front_of-before-requires c =
+pub front-before-requires : goal.front-before-requires
+front-before-requires c =
     near_small c.args.s.now c.requires.table.0 _ _ _ _ c.requires.span.0 c.ends_by-p.ensures c.starts_before-q.ensures c.if-p-q.true
 
 pub offset_bounds-s-q : goal.offset_bounds-s-q
@@ -31,8 +31,8 @@ bounds-s-q c =
     let o = met_within s c.requires.table.0 _ _ _ _ c.requires.span.0 c.ends_by-p.ensures c.starts_before-q.ensures in
     omega arith
 
-pub back_of-after-requires : goal.back_of-after-requires
-back_of-after-requires c =
+pub back-after-requires : goal.back-after-requires
+back-after-requires c =
     far_small c.args.s.now c.requires.table.0 _ _ _ _ c.requires.span.0 c.ends_by-p.ensures c.starts_before-q.ensures c.if-p-q.true
 
 pub replace-requires-clause-rows : goal.replace-requires-clause-rows
@@ -42,13 +42,13 @@ replace-requires-clause-rows c =
     let ep = c.ends_by-p.ensures in
     let eq = c.starts_before-q.ensures in
     let o = met_within s P.table.0 _ _ _ _ P.span.0 ep eq in
-    (o.2, o.0, o.1, cut_fits s P.table.0 _ _ P.span.0 P.span.1 _ _ ep eq _ _ c.front_of-before.result c.back_of-after.result c.if-p-q.true refl refl c.front_of-before.ensures c.back_of-after.ensures)
+    (o.2, o.0, o.1, cut_fits s P.table.0 _ _ P.span.0 P.span.1 _ _ ep eq _ _ c.front-before.result c.back-after.result c.if-p-q.true refl refl c.front-before.ensures c.back-after.ensures)
 
 pub returns-then-p-q : goal.returns-then-p-q
 returns-then-p-q c =
     let s = c.args.s.now in
     let P = c.requires in
-    cut_over s P.table.0 _ _ P.span.0 P.span.1 _ _ c.ends_by-p.ensures c.starts_before-q.ensures _ _ c.front_of-before.result c.back_of-after.result c.if-p-q.true refl refl c.front_of-before.ensures c.back_of-after.ensures _ c.replace.ensures
+    cut_over s P.table.0 _ _ P.span.0 P.span.1 _ _ c.ends_by-p.ensures c.starts_before-q.ensures _ _ c.front-before.result c.back-after.result c.if-p-q.true refl refl c.front-before.ensures c.back-after.ensures _ c.replace.ensures
 
 pub returns-else-p-q : goal.returns-else-p-q
 returns-else-p-q c =

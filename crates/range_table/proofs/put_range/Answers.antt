@@ -1,6 +1,6 @@
 -- `put_range` meets its contract. p is the first row met, q the one behind the last.
+use Rattle.std.specs.Prelude.{Some}
 use Rattle.std.proofs.Common.{refl, arith}
-use Rattle.table.specs.declared.Piece.TheVariants.{Part}
 use Rattle.range_table.specs.Edit.{rows_of}
 use Rattle.range_table.specs.Made.{ends_within, far_small, inserted, made_length, met_within, near_small, one_row, put_between, put_over}
 use Rattle.range_table.proofs.put_range.Goals as goal
@@ -21,8 +21,8 @@ bounds-s-p c =
     let o = met_within s P.table.0 c.first-a.result c.end-e.result _ _ (omega arith) c.ends_by-p.ensures c.starts_before-q.ensures in
     omega arith
 
-pub front_of-before-requires : goal.front_of-before-requires
-front_of-before-requires c =
+pub front-before-requires : goal.front-before-requires
+front-before-requires c =
     let s = c.args.s.now in
     let P = c.requires in
     let len = P.small.1 in
@@ -44,8 +44,8 @@ bounds-s-q c =
     let o = met_within s P.table.0 c.first-a.result c.end-e.result _ _ (omega arith) c.ends_by-p.ensures c.starts_before-q.ensures in
     omega arith
 
-pub back_of-after-requires : goal.back_of-after-requires
-back_of-after-requires c =
+pub back-after-requires : goal.back-after-requires
+back-after-requires c =
     let s = c.args.s.now in
     let P = c.requires in
     let len = P.small.1 in
@@ -57,17 +57,17 @@ replace-requires-clause-rows c =
     let P = c.requires in
     let len = P.small.1 in
     let o = met_within s P.table.0 c.first-a.result c.end-e.result _ _ (omega arith) c.ends_by-p.ensures c.starts_before-q.ensures in
-    let g = made_length (rows_of c.front_of-before.result) (rows_of (Part c.args.n)) (rows_of c.back_of-after.result) in
-    let x = one_row c.front_of-before.result in
-    let y = one_row c.back_of-after.result in
+    let g = made_length (rows_of c.front-before.result) (rows_of (Some c.args.n)) (rows_of c.back-after.result) in
+    let x = one_row c.front-before.result in
+    let y = one_row c.back-after.result in
     (o.2, o.0, o.1, omega arith)
 
 pub returns-then-p-q : goal.returns-then-p-q
 returns-then-p-q c =
     let s = c.args.s.now in
     let P = c.requires in
-    put_over s P.table.0 c.args.n P.small.0 P.small.1 P.small.2 _ _ _ _ c.first-a.ensures c.end-e.ensures c.ends_by-p.ensures c.starts_before-q.ensures _ _ c.front_of-before.result
-    c.back_of-after.result _ c.if-p-q.true refl refl c.front_of-before.ensures c.back_of-after.ensures c.replace.ensures
+    put_over s P.table.0 c.args.n P.small.0 P.small.1 P.small.2 _ _ _ _ c.first-a.ensures c.end-e.ensures c.ends_by-p.ensures c.starts_before-q.ensures _ _ c.front-before.result
+    c.back-after.result _ c.if-p-q.true refl refl c.front-before.ensures c.back-after.ensures c.replace.ensures
 
 -- where no range is met
 pub overflow_add-p : goal.overflow_add-p

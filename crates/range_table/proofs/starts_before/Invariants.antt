@@ -1,6 +1,6 @@
 -- `starts_before` meets its contract: below `low` all ranges begin before the page, from `high` on none does.
 use Prim.Native.Nat.{ℕ, ◌-◌, ◌≤◌, ◌<◌}
-use Rattle.sheet.specs.Sheet.{range_at}
+use Rattle.store.specs.With.{range_at}
 use Rattle.table.specs.Table.{ranged}
 use Rattle.ranges.specs.Range.{from}
 use Rattle.range_table.proofs.starts_before.Given as goal

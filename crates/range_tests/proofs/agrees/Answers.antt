@@ -7,8 +7,8 @@ use Rattle.range_tests.proofs.agrees.Goals as goal
 pub loop-link-init : goal.loop-link-init
 loop-link-init c = walk_agree c.args.s.now.ranges c.args.chains.now.next (c.args.i + 1) c.args.i c.requires.linked (omega arith)
 
-pub returns-then-same : goal.returns-then-same
-returns-then-same c =
+pub returns-then-eq : goal.returns-then-eq
+returns-then-eq c =
     let l = c.loop-link in
     let q : all_below (alike_to c.args.s.now.ranges c.args.i) (l.link - 1 + 1) ≡ true =
     same_agrees c.args.s.now.ranges c.args.i (l.link - 1) (omega (arith, l.invariant.low)) c.requires.before (search rules) in

@@ -8,15 +8,15 @@ use Rattle.trimming.proofs.trim_along.Goals.{in-Some, in-None}
 pub loop-f-init : goal.loop-f-init
 loop-f-init c = let w = c.args.windows.now in record { hinted = tt; trimmed = mapped_none (kept w.ranges.now w.count) c.args.places.now }
 
-pub loop-f-preserved-then-is_nowhere : goal.loop-f-preserved-then-is_nowhere
-loop-f-preserved-then-is_nowhere c =
+pub loop-f-preserved-then-eq : goal.loop-f-preserved-then-eq
+loop-f-preserved-then-eq c =
     let s = c.args.windows.now in
     let l = c.loop-f in
     let I = l.invariant in
     let p = get_or l.places l.f nowhere in
     record {
       hinted = I.hinted;
-      trimmed = turn (kept s.ranges.now s.count) c.args.places.now l.places l.f c.loop-f-test.true I.trimmed p (kept_free s.ranges.now s.count p (sym c.if-is_nowhere.ensures));
+      trimmed = turn (kept s.ranges.now s.count) c.args.places.now l.places l.f c.loop-f-test.true I.trimmed p (kept_free s.ranges.now s.count p (sym c.eq.ensures ∙ c.if-eq.true));
     }
 
 pub loop-f-preserved : goal.loop-f-preserved

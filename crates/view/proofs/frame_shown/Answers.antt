@@ -1,77 +1,75 @@
 -- `view::frame_shown` meets its contract.
-use mathlib.Core.Path.{◌≡◌, ap, ap₂, sym, ◌∙◌}
-use mathlib.Core.List.{List}
-use Prim.Native.Nat.{ℕ}
-use lib.ListN.{length}
+use Rattle.std.specs.Prelude.{Some, None}
+use Rattle.std.proofs.Common.{◌≡◌, List, ℕ, length, ap, sym, ◌∙◌, arith}
 use Rattle.ranges.specs.Range.{line}
 use Rattle.book.specs.Book.{show}
-use Rattle.store.specs.declared.Store.{Store}
-use Rattle.store.specs.Iff.{says_sound}
-use Rattle.look.specs.declared.Located.{Located}
-use Rattle.look.specs.declared.PageAt.TheVariants.{Absent, Present}
 use Rattle.look.specs.Look.{located}
 use Rattle.look.specs.Found.{frame_is}
-use Rattle.refuse.specs.Refuse.{refusal}
-use Rattle.enter.specs.Enter.{entered_charted, refuses, tried}
-use Rattle.view.specs.Showing.{refused_none, accepts_length, frame_shown_lem, frame_inside}
-use native.Mathlib.Omega.{arith}
-use Rattle.sound.specs.Parts.{brought}
+use Rattle.refusals.specs.Number.{number_of}
+use Rattle.refusals.specs.Refuse.{refusal}
+use Rattle.view.specs.Showing.{value_is, not_entered, not_shown, not_refused, accepts_length, frame_shown_lem, frame_inside}
 use Rattle.view.proofs.frame_shown.Goals as goal
 
-pub show-k-requires : goal.show-k-requires
-show-k-requires c = λ t. ((tried (c.examine-ok.ensures _ (brought c.load.ensures c.rows-rows.ensures))).enters t).sound
-
-pub returns-then-k-gt0 : goal.returns-then-k-gt0
-returns-then-k-gt0 c =
+pub returns-in_err-sound-clause-book : goal.returns-in_err-sound-clause-book
+returns-in_err-sound-clause-book c =
     let a = c.args in
-    let q = c.show-k in
-    let T = tried (c.examine-ok.ensures _ (brought c.load.ensures c.rows-rows.ensures)) in
-    (λ x e. refused_none a.s x a.object a.page.0 q.result c.if-k-gt0.true (refuses T x _ (q.ensures x e)), tt)
+    λ x l. c.from_residual.ensures ∙ not_entered a.s.now a.object a.page.0 _ c.enter.ensures.tried (sym c.in_err-sound.ensures.value) x
 
-pub line_of-g-requires : goal.line_of-g-requires
-line_of-g-requires c =
+pub returns-in_err-ok-clause-book : goal.returns-in_err-ok-clause-book
+returns-in_err-ok-clause-book c =
     let a = c.args in
-    let q = c.show-k in
-    let T = tried (c.examine-ok.ensures _ (brought c.load.ensures c.rows-rows.ensures)) in
-    let k : q.result ≡ 0 = omega (arith, c.if-k-gt0.false) in
-    let r : (x : List ℕ) → length x ≡ a.pool → 0 ≡ refusal a.s x (show a.object a.page.0) = λ x e. sym k ∙ refuses T x _ (q.ensures x e) in
-    let A = accepts_length a.s a.pool a.object a.page.0 r in
-    omega (arith, A.page)
+    let s = a.s.now in
+    let same : c.in_ok-sound.sound.store.now ≡ s = value_is (λ q. q.store.now ≡ s) c.enter.result c.enter.ensures.same (sym c.in_ok-sound.ensures.value) in
+    λ x l. c.from_residual-in_err-ok.ensures ∙ not_shown s a.object a.page.0 a.pool c.show.result (rw same at c.show.ensures) (sym c.in_err-ok.ensures.value) x l
+
+pub line_of-requires : goal.line_of-requires
+line_of-requires c =
+    let a = c.args in
+    let s = a.s.now in
+    let same : c.in_ok-sound.sound.store.now ≡ s = value_is (λ q. q.store.now ≡ s) c.enter.result c.enter.ensures.same (sym c.in_ok-sound.ensures.value) in
+    let f : (x : List ℕ) → length x ≡ a.pool → number_of c.show.result ≡ refusal s x (show a.object a.page.0) = rw same at c.show.ensures in
+    let r : (x : List ℕ) → length x ≡ a.pool → 0 ≡ refusal s x (show a.object a.page.0) = not_refused s a.object a.page.0 a.pool c.show.result f (sym c.in_ok-ok.ensures.value) in
+    omega (arith, (accepts_length s a.pool a.object a.page.0 r).page)
 
 pub locate-requires : goal.locate-requires
 locate-requires c =
     let a = c.args in
-    let q = c.show-k in
-    let T = tried (c.examine-ok.ensures _ (brought c.load.ensures c.rows-rows.ensures)) in
-    let k : q.result ≡ 0 = omega (arith, c.if-k-gt0.false) in
-    let r : (x : List ℕ) → length x ≡ a.pool → 0 ≡ refusal a.s x (show a.object a.page.0) = λ x e. sym k ∙ refuses T x _ (q.ensures x e) in
-    let A = accepts_length a.s a.pool a.object a.page.0 r in
-    let E = T.enters (T.test ∙ says_sound a.s A.sound) in
-    (entered_charted E, omega (arith, c.line_of-g.ensures, A.page, A.name))
+    let s = a.s.now in
+    let same : c.in_ok-sound.sound.store.now ≡ s = value_is (λ q. q.store.now ≡ s) c.enter.result c.enter.ensures.same (sym c.in_ok-sound.ensures.value) in
+    let f : (x : List ℕ) → length x ≡ a.pool → number_of c.show.result ≡ refusal s x (show a.object a.page.0) = rw same at c.show.ensures in
+    let r : (x : List ℕ) → length x ≡ a.pool → 0 ≡ refusal s x (show a.object a.page.0) = not_refused s a.object a.page.0 a.pool c.show.result f (sym c.in_ok-ok.ensures.value) in
+    let A = accepts_length s a.pool a.object a.page.0 r in
+    omega (arith, c.line_of.ensures, A.page, A.name)
 
-pub returns-in-Absent : goal.returns-in-Absent
-returns-in-Absent c =
+pub returns-in_err-located-clause-book : goal.returns-in_err-located-clause-book
+returns-in_err-located-clause-book c =
     let a = c.args in
-    let q = c.show-k in
-    let T = tried (c.examine-ok.ensures _ (brought c.load.ensures c.rows-rows.ensures)) in
-    let k : q.result ≡ 0 = omega (arith, c.if-k-gt0.false) in
-    let r : (x : List ℕ) → length x ≡ a.pool → 0 ≡ refusal a.s x (show a.object a.page.0) = λ x e. sym k ∙ refuses T x _ (q.ensures x e) in
-    let A = accepts_length a.s a.pool a.object a.page.0 r in
-    let E = T.enters (T.test ∙ says_sound a.s A.sound) in
-    let l : located a.s (line a.object a.page.0) ≡ Absent =
-    ap₂ (λ (t : Store) (g : ℕ). located t g) (sym E.store) (sym c.line_of-g.ensures) ∙ sym c.in-Absent.ensures in
-    (λ x e. ap frame_is (sym l) ∙ frame_shown_lem a.s T.sized a.object a.page.0 x (r x e), tt)
+    let s = a.s.now in
+    let same : c.in_ok-sound.sound.store.now ≡ s = value_is (λ q. q.store.now ≡ s) c.enter.result c.enter.ensures.same (sym c.in_ok-sound.ensures.value) in
+    let f : (x : List ℕ) → length x ≡ a.pool → number_of c.show.result ≡ refusal s x (show a.object a.page.0) = rw same at c.show.ensures in
+    let r : (x : List ℕ) → length x ≡ a.pool → 0 ≡ refusal s x (show a.object a.page.0) = not_refused s a.object a.page.0 a.pool c.show.result f (sym c.in_ok-ok.ensures.value) in
+    let l : located s (line a.object a.page.0) ≡ None =
+    rw (← same, ← c.states.ensures.store, ← c.line_of.ensures) (sym c.in_err-located.ensures.found) in
+    λ x e. c.from_residual-in_err-located.ensures ∙ ap frame_is (sym l) ∙ frame_shown_lem s c.enter.ensures.tried.sized a.object a.page.0 x (r x e)
 
-pub returns-in-Present : goal.returns-in-Present
-returns-in-Present c =
+pub returns-clause-book : goal.returns-clause-book
+returns-clause-book c =
     let a = c.args in
-    let q = c.show-k in
-    let T = tried (c.examine-ok.ensures _ (brought c.load.ensures c.rows-rows.ensures)) in
-    let k : q.result ≡ 0 = omega (arith, c.if-k-gt0.false) in
-    let r : (x : List ℕ) → length x ≡ a.pool → 0 ≡ refusal a.s x (show a.object a.page.0) = λ x e. sym k ∙ refuses T x _ (q.ensures x e) in
-    let A = accepts_length a.s a.pool a.object a.page.0 r in
-    let E = T.enters (T.test ∙ says_sound a.s A.sound) in
-    let p : Located = c.in-Present.l in
-    let l : located a.s (line a.object a.page.0) ≡ Present p =
-    ap₂ (λ (t : Store) (g : ℕ). located t g) (sym E.store) (sym c.line_of-g.ensures) ∙ sym c.in-Present.ensures in
-    (λ x e. ap frame_is (sym l) ∙ frame_shown_lem a.s T.sized a.object a.page.0 x (r x e), frame_inside a.s T.sized a.object a.page.0 a.pool A p l)
+    let s = a.s.now in
+    let same : c.in_ok-sound.sound.store.now ≡ s = value_is (λ q. q.store.now ≡ s) c.enter.result c.enter.ensures.same (sym c.in_ok-sound.ensures.value) in
+    let f : (x : List ℕ) → length x ≡ a.pool → number_of c.show.result ≡ refusal s x (show a.object a.page.0) = rw same at c.show.ensures in
+    let r : (x : List ℕ) → length x ≡ a.pool → 0 ≡ refusal s x (show a.object a.page.0) = not_refused s a.object a.page.0 a.pool c.show.result f (sym c.in_ok-ok.ensures.value) in
+    let l : located s (line a.object a.page.0) ≡ Some c.in_ok-located.located =
+    rw (← same, ← c.states.ensures.store, ← c.line_of.ensures) (sym c.in_ok-located.ensures.found) in
+    λ x e. ap frame_is (sym l) ∙ frame_shown_lem s c.enter.ensures.tried.sized a.object a.page.0 x (r x e)
+
+pub returns-clause-inside : goal.returns-clause-inside
+returns-clause-inside c =
+    let a = c.args in
+    let s = a.s.now in
+    let same : c.in_ok-sound.sound.store.now ≡ s = value_is (λ q. q.store.now ≡ s) c.enter.result c.enter.ensures.same (sym c.in_ok-sound.ensures.value) in
+    let f : (x : List ℕ) → length x ≡ a.pool → number_of c.show.result ≡ refusal s x (show a.object a.page.0) = rw same at c.show.ensures in
+    let r : (x : List ℕ) → length x ≡ a.pool → 0 ≡ refusal s x (show a.object a.page.0) = not_refused s a.object a.page.0 a.pool c.show.result f (sym c.in_ok-ok.ensures.value) in
+    let l : located s (line a.object a.page.0) ≡ Some c.in_ok-located.located =
+    rw (← same, ← c.states.ensures.store, ← c.line_of.ensures) (sym c.in_ok-located.ensures.found) in
+    frame_inside s c.enter.ensures.tried.sized a.object a.page.0 a.pool (accepts_length s a.pool a.object a.page.0 r) c.in_ok-located.located l

@@ -1,6 +1,6 @@
 use Rattle.std.proofs.Common.{ℕ, ◌%◌, ap, ◌∙◌, length, arith, rules}
 use Rattle.std.proofs.Math.ListN.{length-set}
-use Rattle.charts.specs.declared.Chains.{Chains}
+use Rattle.chains.specs.declared.Chains.{Chains}
 use Rattle.window_search.specs.Windows.{chains_next, chains_none}
 use Rattle.window_search.proofs.chains_of.Goals as goal
 

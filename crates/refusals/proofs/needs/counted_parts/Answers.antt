@@ -13,7 +13,7 @@ returns c =
     let e = a.extent in
     let p = c.span_of-span in
     let h = p.ensures in (
-      λ x. let each : ℕ → ℕ = λ q. frames a.absent (state_of e.object q (entry (book_of a.s.now x))) in
+      λ x. let each : ℕ → ℕ = λ q. frames a.absent (state_of e.object q (entry (book_of a.states.now.pages.store.now x))) in
           parts_counted e.offset e.n p.result h.0 h.1 h.2 each _ _
           (c.partly.ensures.0 x ∙ ap (λ q. partly (span_is p.result) each q p.result.head) c.from_offset-first.ensures)
           (c.partly-2.ensures.0 x ∙ ap (λ q. partly (span_is p.result) each q p.result.tail) (c.from_offset-last.ensures ∙ ap (λ (k : ℕ). k / 4096) (add_assoc e.offset p.result.head (p.result.whole * 4096)))),

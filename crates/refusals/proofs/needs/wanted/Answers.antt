@@ -11,12 +11,12 @@ use Rattle.refusals.proofs.needs.wanted.Goals as goal
 pub loop-i-preserved : goal.loop-i-preserved
 loop-i-preserved c =
     let a = c.args in
-    let q = c.requires.0 in
+    let q = a.states.now.pages.charted in
     let l = c.loop-i in
-    let s = a.s.now in
+    let s = a.states.now.pages.store.now in
     let g : c.line_of.result ≡ line a.object (a.page.0 + l.i) = c.line_of.ensures ∙ ap (line a.object) c.offset.ensures in
     let r : c.wants-count.result ≡ frames_at 1 s (line a.object (a.page.0 + l.i)) =
-    rw (← g) (c.wants-count.ensures.0 ∙ ap (λ (z : State). frames 1 (state_is z)) c.state_near-near.ensures) in
+    rw (← g) (c.wants-count.ensures.0 ∙ ap (λ (z : State). frames 1 (state_is z)) c.near-near.ensures) in
     record {
       few = omega (arith, c.wants-count.ensures.1);
       left = λ x. let m = r ∙ wants_seen s q.table q.places a.object (a.page.0 + l.i) x in

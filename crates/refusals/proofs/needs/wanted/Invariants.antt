@@ -9,5 +9,5 @@ use Rattle.refusals.proofs.needs.wanted.Given as goal
 abbrev pub invariant-loop-i : goal.invariant-loop-i
 invariant-loop-i l = record {
   few : l.count ≤ l.i;
-  left : (x : List ℕ) → l.count + wanted (l.n - l.i) l.object (l.page.0 + l.i) (entry (book_of l.s x)) ≡ wanted l.n l.object l.page.0 (entry (book_of l.s x));
+  left : (x : List ℕ) → l.count + wanted (l.n - l.i) l.object (l.page.0 + l.i) (entry (book_of l.states.pages.store.now x)) ≡ wanted l.n l.object l.page.0 (entry (book_of l.states.pages.store.now x));
 }

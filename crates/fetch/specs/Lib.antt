@@ -1,1 +1,0 @@
--- What is read and written is said by the crates `reads`, `pages` and `writes`.

@@ -1,3 +1,0 @@
-pub mod Needs
-pub mod Refuse
-pub mod Spans

@@ -1,3 +1,0 @@
-pub mod Framed
-pub mod Held
-pub mod Near

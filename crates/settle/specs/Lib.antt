@@ -1,2 +1,0 @@
-pub mod Depart
-pub mod Step

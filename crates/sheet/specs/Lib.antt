@@ -1,4 +1,0 @@
-pub mod Sheet
-pub mod Edits
-pub mod Load
-pub mod Zero

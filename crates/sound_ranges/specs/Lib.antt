@@ -1,4 +1,0 @@
-pub mod Agree
-pub mod Fit
-pub mod Shape
-pub mod Slots

@@ -1,4 +1,0 @@
-use Rattle.table.proofs.in_window.Goals as goal
-
-pub returns : goal.returns
-returns c = cc
