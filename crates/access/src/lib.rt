@@ -10,7 +10,8 @@ ghost use Rattle.access.specs.Added.{frame_in, store_in};
 
 use charts::Charts;
 use page::PageNumber;
-use refusals::{Entry, Extent, Refusal};
+use page_steps::{PageAddress, Work};
+use refusals::{Extent, Refusal};
 use store::Store;
 
 // The store left, and the frame of an added page.
@@ -24,8 +25,14 @@ pub fn add(mut s: Store, pool: &mut [u8], object: u32, page: PageNumber) -> Resu
     ensures { DidWith (add object page.0) s pool.old (number_of result) (added (frame_in result)) (store_in s result) pool.new }
 {
     let mut charts = Charts::new();
-    refusals::enter(&s, &mut charts)?.add(pool.len(), object, page)?;
-    let frame = page_steps::add_page(&mut s, pool, object, page);
+    refusals::enter(&s, &mut charts)?
+        .sound
+        .add(pool.len(), object, page)?;
+    let mut work = Work {
+        store: &mut s,
+        pool,
+    };
+    let frame = work.add_page(PageAddress { object, page });
     freeing::renew(&mut s);
     Ok(Added { store: s, frame })
 }
@@ -47,13 +54,9 @@ pub fn read(
         n: buf.len(),
     };
     let mut charts = Charts::new();
-    let sound = refusals::enter(&s, &mut charts)?;
-    sound.read(pool.len(), extent)?;
-    let entry = Entry {
-        sound,
-        charts: &charts,
-    };
-    in_place::read_pages(&entry.states().pages, pool, object, offset, buf);
+    let entry = refusals::enter(&s, &mut charts)?;
+    entry.sound.read(pool.len(), extent)?;
+    in_place::read_pages(&entry.pages(), pool, object, offset, buf);
     Ok(())
 }
 
@@ -74,15 +77,15 @@ pub fn write(
         n: src.len(),
     };
     let mut charts = Charts::new();
-    let sound = refusals::enter(&s, &mut charts)?;
-    let entry = Entry {
-        sound,
-        charts: &charts,
-    };
+    let entry = refusals::enter(&s, &mut charts)?;
     entry.write(pool.len(), extent)?;
     let done = in_place::overwrite_pages(&entry.states(), pool, object, offset, src);
     if done < src.len() {
-        page_writes::write_pages(&mut s, pool, object, offset + done, &src[done..]);
+        let mut work = Work {
+            store: &mut s,
+            pool,
+        };
+        page_writes::write_pages(&mut work, object, offset + done, &src[done..]);
         freeing::renew(&mut s);
     }
     Ok(s)

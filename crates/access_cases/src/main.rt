@@ -1,11 +1,9 @@
 // Runs reads and writes at the ends of an object, at the edges of pages and over pages that are absent. Answers are written by hand from document 01. One line a case.
 #![tactic(auto)]
 
-ghost use Rattle.std.specs.Prelude.{◌+◌, ◌≤◌};
-
 use access_samples::{
     adds, bare, extent, five, frames, fresh, gets, high, holed, leaves, paged, puts, puts_nothing,
-    read_is, read_refused, small, span, write_refused,
+    read_is, read_refused, small, span, stored, write_refused,
 };
 use refusals::Refusal;
 use samples::{FREE, absent, many, place, private, report, single};
@@ -24,9 +22,7 @@ fn nothing_read() {
 }
 
 // A read and a write that are refused with 6.
-fn past(name: &str, offset: usize, n: usize)
-    requires { n ≤ 20480 }
-{
+fn past(name: &str, offset: usize, n: usize) {
     let s = paged();
     let there = extent(0, offset, n);
     let read = read_refused(s, 20480, there, Refusal::PastEnd);
@@ -76,18 +72,7 @@ fn last_byte() {
 
 // Pages 262139 to 262143 of object 0, in frames 4 to 0.
 fn last_pages() {
-    let t = small(
-        3,
-        &[many(0, 262139, 5, 0, 1)],
-        &[
-            place(1, 4),
-            place(1, 3),
-            place(1, 2),
-            place(1, 1),
-            place(1, 0),
-        ],
-        0,
-    );
+    let t = small(3, &[many(0, 262139, 5, 0, 1)], &paged().places, 0);
     let src = [8; 20480];
     puts(
         "the last five pages written",
@@ -103,16 +88,12 @@ fn last_pages() {
 
 // ---- the edges of pages
 // abcde written: n bytes of it stand at one place of the pool and the others at another.
-fn edge(name: &str, offset: usize, at: usize, n: usize, then: usize)
-    requires { (n ≤ 5) × (at + n ≤ 20480) × (then + 5 ≤ 20480) }
-{
+fn edge(name: &str, offset: usize, at: usize, n: usize, then: usize) {
     let s = paged();
     let mut pool = five();
     let r = access::write(s, &mut pool, 0, offset, b"abcde");
-    let mut want = five();
-    let (head, tail) = b"abcde".split_at(n);
-    want[at..at + n].copy_from_slice(head);
-    want[then..then + 5 - n].copy_from_slice(tail);
+    let (head, tail) = b"abcde".split_at_checked(n).unwrap_or((&[], &[]));
+    let want = stored(stored(five(), at, head), then, tail);
     let back = read_is(s, &pool, 0, offset, b"abcde");
     report(name, r == Ok(s) && pool == want && back);
 }
@@ -177,7 +158,7 @@ fn read_windows() {
     gets("the same in another window", s, 1, 4095, &[5, 0]);
 }
 
-// The parts, one after another. By hand: a table of them would be one of function pointers.
+// The parts, one after another. By hand: a table of functions and a loop over it say no more than the calls.
 fn main() {
     nothing_written();
     nothing_read();

@@ -1,13 +1,15 @@
 // What the programs that run calls on bytes share: small stores and pools, and the comparing of answers. Backings are compared as document 01 has them: their numbers and kinds are free.
+// By hand: a case is told in one call, so that it stands in one line: `s`, the store, with `object` and `offset`, which document 01 gives the calls; or, of a
+// refusal, `n`, the bytes of the pool that are lent, and `why`.
 #![tactic(auto)]
 
-ghost use Rattle.std.specs.Prelude.{◌≡◌, ◌<◌, ◌≤◌, length};
+ghost use Rattle.std.specs.Prelude.{◌≡◌};
 
 use access::Added;
 use page::PageNumber;
 use places::Place;
 use refusals::{Extent, Refusal};
-use samples::{FREE, many, place, report, single, store};
+use samples::{FREE, many, place, report, seated, single, store};
 use store::Store;
 use table::{BackingPages, PageRange};
 
@@ -26,14 +28,34 @@ pub fn five() -> [u8; 20480] {
     frames(&[1, 2, 3, 4, 5])
 }
 
-// The same with one frame zeroed and then one byte stored.
-pub fn fresh(frame: usize, at: usize, b: u8) -> [u8; 20480]
-    requires { (frame < 5) × (at < 20480) }
-{
-    let mut p = five();
-    pool::zero_frame(&mut p, frame);
-    p[at] = b;
-    p
+// The same with one frame zeroed.
+fn zeroed(frame: usize) -> [u8; 20480] {
+    let mut bytes = [1, 2, 3, 4, 5];
+    if let Some(b) = bytes.get_mut(frame) {
+        *b = 0;
+    }
+    frames(&bytes)
+}
+
+// A pool with n of its bytes, from one place on, all b.
+pub fn filled<const N: usize>(mut pool: [u8; N], at: usize, n: usize, b: u8) -> [u8; N] {
+    for byte in pool.iter_mut().skip(at).take(n) {
+        *byte = b;
+    }
+    pool
+}
+
+// A pool with these bytes from one place on.
+pub fn stored(mut pool: [u8; 20480], at: usize, bytes: &[u8]) -> [u8; 20480] {
+    for (byte, b) in pool.iter_mut().skip(at).zip(bytes) {
+        *byte = *b;
+    }
+    pool
+}
+
+// The five frames with one zeroed and then one byte stored.
+pub fn fresh(frame: usize, at: usize, b: u8) -> [u8; 20480] {
+    filled(zeroed(frame), at, 1, b)
 }
 
 // 11, then a page of twelves, then 13.
@@ -50,9 +72,7 @@ pub fn high(d: Place, e: Place) -> [Place; 5] {
 }
 
 // Five frames: these ranges, these places, and a free map whose first word is w.
-pub fn small(live: u32, ranges: &[PageRange], places: &[Place], w: u64) -> Store
-    requires { (length ranges.now ≤ 512) × (length places.now ≤ 1024) }
-{
+pub fn small(live: u32, ranges: &[PageRange], places: &[Place], w: u64) -> Store {
     store(5, live, ranges, places, &[w])
 }
 
@@ -73,14 +93,35 @@ pub fn paged() -> Store {
     small(3, &[many(0, 0, 5, 0, 1)], &p, 0)
 }
 
-// Of object 0, page 0 in frame 4, page 1 absent, page 2 in frame 2, page 3 not covered, page 4 in frame 0.
+// Pages 0 and 1 of object 0 in frames 4 and 3; and page 2 in frame 2.
+pub fn two_pages() -> Store {
+    let p = high(place(1, 1), place(1, 0));
+    small(3, &[many(0, 0, 2, 0, 1)], &p, 7)
+}
+
+pub fn three_pages() -> Store {
+    let p = [FREE, FREE, place(1, 2), place(1, 1), place(1, 0)];
+    small(3, &[many(0, 0, 3, 0, 1)], &p, 3)
+}
+
+// Of object 0, page 0 in frame 4, page 1 absent, page 2 in frame 2, page 3 not covered, page 4 in frame 0; and page 1 in frame 3.
 pub fn holed() -> Store {
     let a = [many(0, 0, 3, 0, 1), single(0, 4, 1, 0, 2)];
     let p = [place(2, 0), FREE, place(1, 2), FREE, place(1, 0)];
     small(3, &a, &p, 10)
 }
 
-// Page 0 of object 0 in frame 4; pages 5 up to 8 of objects 0 and 1 in one backing, page 6 in frame 3. By hand: a store of
+pub fn hole_filled() -> Store {
+    seated(holed(), 3, place(1, 1), 2)
+}
+
+// Two windows of one backing; frame 4 at an index that object 0 alone has in its window.
+pub fn windows_apart() -> Store {
+    let a = [many(0, 0, 3, 0, 1), many(1, 0, 1, 5, 1)];
+    small(3, &a, &high(FREE, place(1, 1)), 15)
+}
+
+// Page 0 of object 0 in frame 4; pages 5 up to 8 of objects 0 and 1 in one backing, page 6 in frame 3. By hand: the store of
 // a case is told by a table of its own.
 pub fn halves() -> Store {
     let a = [
@@ -100,9 +141,7 @@ pub fn spoiled_halves(w: u64, count: usize) -> Store {
 }
 
 // The halves with other ranges, and frame 2 in backing 3.
-pub fn halved(ranges: &[PageRange]) -> Store
-    requires { length ranges.now ≤ 512 }
-{
+pub fn halved(ranges: &[PageRange]) -> Store {
     let p = [FREE, FREE, place(3, 0), place(2, 1), place(1, 0)];
     small(3, ranges, &p, 3)
 }
@@ -118,8 +157,47 @@ pub fn thirds() -> Store {
     ])
 }
 
+// Pages 0 and 1 of object 0 are the same page, in frame 4; and page 0 cut out of it, in frame 3.
+pub fn twice() -> Store {
+    let a = [single(0, 0, 1, 0, 1), single(0, 1, 1, 0, 1)];
+    small(3, &a, &high(FREE, place(1, 0)), 15)
+}
+
+pub fn twice_cut() -> Store {
+    let a = [single(0, 0, 1, 0, 2), single(0, 1, 1, 0, 1)];
+    small(3, &a, &high(place(2, 0), place(1, 0)), 7)
+}
+
+// Pages 0 and 1 of an object are the same page, in frame 4, and frame 3 alone is free.
+pub fn twice_full(live: u32, object: u32) -> Store {
+    let a = [
+        single(object, 0, 1, 0, 1),
+        single(object, 1, 1, 0, 1),
+        many(object, 100, 3, 0, 2),
+    ];
+    let p = [place(2, 0), place(2, 1), place(2, 2), FREE, place(1, 0)];
+    small(live, &a, &p, 8)
+}
+
+// Page 0 of both objects in frame 4, the other frames in use. By hand: the store of a case is told by a table of its own.
+pub fn shared_full() -> Store {
+    let a = [
+        single(0, 0, 1, 0, 1),
+        single(1, 0, 1, 0, 1),
+        many(1, 9, 4, 0, 2),
+    ];
+    let p = [
+        place(2, 0),
+        place(2, 1),
+        place(2, 2),
+        place(2, 3),
+        place(1, 0),
+    ];
+    small(3, &a, &p, 0)
+}
+
 // ---- stores that are the same but for the numbers and kinds of their backings
-// The first slot that holds a backing, 512 where none does; for 0 it is the first unused slot.
+// The first slot that holds a backing, 512 where none does; for 0 it is the first unused slot. By hand: 512 is a number as good as any other to compare such slots by.
 fn holder(s: &Store, backing: u32) -> u32 {
     s.ranges
         .iter()
@@ -157,11 +235,11 @@ pub fn hands(r: Result<Added, Refusal>, frame: usize, t: Store) -> bool {
 }
 
 // A read is done and gives these bytes.
-pub fn read_is(s: Store, pool: &[u8], object: u32, offset: usize, want: &[u8]) -> bool
-    requires { length want.now ≤ 20480 }
-{
+pub fn read_is(s: Store, pool: &[u8], object: u32, offset: usize, want: &[u8]) -> bool {
     let mut buf = [170; 20480];
-    let buf = &mut buf[..want.len()];
+    let Some(buf) = buf.get_mut(..want.len()) else {
+        return false;
+    };
     access::read(s, pool, object, offset, buf).is_ok() && &*buf == want
 }
 
@@ -175,46 +253,49 @@ where
     leaves(call(&mut pool), t) && pool == *want
 }
 
-// ---- refusals, where the first n bytes of a pool of sevens are lent: pool and buffer stay
+// ---- refusals, where the first n bytes of a pool of sevens are lent: pool and buffer stay. A case that asks for more bytes than there are goes wrong.
 pub fn refused<T: Drop, F>(call: F, n: usize, why: Refusal) -> bool
 where
     F: FnOnce(&mut [u8]) -> Result<T, Refusal>,
-    requires callable { F.IsAlwaysCallable call }
-    requires lent { n ≤ 24576 }
+    requires { F.IsAlwaysCallable call }
 {
     let mut pool = [7; 24576];
-    call(&mut pool[..n]).err() == Some(why) && pool == [7; 24576]
+    let Some(lent) = pool.get_mut(..n) else {
+        return false;
+    };
+    call(lent).err() == Some(why) && pool == [7; 24576]
 }
 
-// n bytes of an object, from an offset on.
+// n bytes of an object, from an offset on. By hand: the parameters are the fields of what it makes.
 pub fn extent(object: u32, offset: usize, n: usize) -> Extent
     ensures { result ≡ record { object = object; offset = offset; n = n } }
 {
     Extent { object, offset, n }
 }
 
-pub fn add_refused(s: Store, n: usize, object: u32, page: usize, why: Refusal) -> bool
-    requires { n ≤ 24576 }
-{
+pub fn add_refused(s: Store, n: usize, object: u32, page: usize, why: Refusal) -> bool {
     let page = PageNumber(page);
     refused(|pool| access::add(s, pool, object, page), n, why)
 }
 
-pub fn read_refused(s: Store, n: usize, extent: Extent, why: Refusal) -> bool
-    requires { (n ≤ 24576) × (extent.n ≤ 20480) }
-{
-    let pool = [7; 24576];
+pub fn read_refused(s: Store, n: usize, extent: Extent, why: Refusal) -> bool {
     let mut buf = five();
-    let there = &mut buf[..extent.n];
-    let r = access::read(s, &pool[..n], extent.object, extent.offset, there);
-    r == Err(why) && buf == five()
+    let Some(there) = buf.get_mut(..extent.n) else {
+        return false;
+    };
+    let right = refused(
+        |pool| access::read(s, pool, extent.object, extent.offset, there),
+        n,
+        why,
+    );
+    right && buf == five()
 }
 
-pub fn write_refused(s: Store, n: usize, extent: Extent, why: Refusal) -> bool
-    requires { (n ≤ 24576) × (extent.n ≤ 20480) }
-{
+pub fn write_refused(s: Store, n: usize, extent: Extent, why: Refusal) -> bool {
     let src = five();
-    let src = &src[..extent.n];
+    let Some(src) = src.get(..extent.n) else {
+        return false;
+    };
     refused(
         |pool| access::write(s, pool, extent.object, extent.offset, src),
         n,
@@ -224,17 +305,13 @@ pub fn write_refused(s: Store, n: usize, extent: Extent, why: Refusal) -> bool
 
 // ---- one case a line, on the pool of five frames
 // The page added has this frame, which is zeroed; all other bytes stay.
-pub fn adds(name: &str, s: Store, object: u32, page: usize, frame: usize, t: Store)
-    requires { frame < 5 }
-{
+pub fn adds(name: &str, s: Store, object: u32, page: usize, frame: usize, t: Store) {
     let mut pool = five();
     let r = access::add(s, &mut pool, object, PageNumber(page));
-    let mut want = five();
-    pool::zero_frame(&mut want, frame);
-    report(name, hands(r, frame, t) && pool == want);
+    report(name, hands(r, frame, t) && pool == zeroed(frame));
 }
 
-// The write is done and leaves this store and this pool. By hand: object, offset and bytes are those of the call.
+// The write is done and leaves this store and this pool. By hand: `object`, `offset` and the bytes are those of the call.
 pub fn puts(
     name: &str,
     s: Store,
@@ -254,9 +331,7 @@ pub fn puts_nothing(name: &str, s: Store, object: u32, offset: usize) {
 }
 
 // The read is done and gives these bytes.
-pub fn gets(name: &str, s: Store, object: u32, offset: usize, want: &[u8])
-    requires { length want.now ≤ 20480 }
-{
+pub fn gets(name: &str, s: Store, object: u32, offset: usize, want: &[u8]) {
     report(name, read_is(s, &five(), object, offset, want));
 }
 

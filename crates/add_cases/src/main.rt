@@ -1,7 +1,7 @@
 // Runs add where a page starts a range, joins one, is replaced or is cut out of a shared one. Answers are written by hand from document 01. One line a case.
 #![tactic(auto)]
 
-use access_samples::{adds, bare, halved, halves, high, holed, small};
+use access_samples::{adds, bare, halved, halves, high, hole_filled, holed, small, windows_apart};
 use samples::{FREE, many, place, single};
 use store::Store;
 
@@ -79,10 +79,7 @@ fn replaced() {
     let p = high(place(1, 4), FREE);
     let t = small(3, &[many(0, 0, 5, 0, 1)], &p, 23);
     adds("a present page is replaced", front(0, 4), 0, 4, 3, t);
-    let p = [place(2, 0), FREE, place(1, 2), place(1, 1), place(1, 0)];
-    let a = [many(0, 0, 3, 0, 1), single(0, 4, 1, 0, 2)];
-    let u = small(3, &a, &p, 2);
-    adds("the highest free frame", holed(), 0, 1, 3, u);
+    adds("the highest free frame", holed(), 0, 1, 3, hole_filled());
 }
 
 fn joined_single() {
@@ -194,10 +191,7 @@ fn cut_alone() {
     adds("a range shared in one object is not joined", u, 0, 2, 3, v);
 }
 
-// Frame 4 at an index that object 0 alone has in its window.
 fn cut_free() {
-    let a = [many(0, 0, 3, 0, 1), many(1, 0, 1, 5, 1)];
-    let s = small(3, &a, &high(FREE, place(1, 1)), 15);
     let b = [
         many(0, 0, 1, 0, 1),
         single(0, 1, 1, 0, 2),
@@ -205,10 +199,10 @@ fn cut_free() {
         many(1, 0, 1, 5, 1),
     ];
     let t = small(3, &b, &high(place(2, 0), FREE), 23);
-    adds("an entry in no window goes", s, 0, 1, 3, t);
+    adds("an entry in no window goes", windows_apart(), 0, 1, 3, t);
 }
 
-// The parts, one after another. By hand: a table of them would be one of function pointers.
+// The parts, one after another. By hand: a table of functions and a loop over it say no more than the calls.
 fn main() {
     started();
     joined();

@@ -6,7 +6,7 @@
 ghost use Rattle.std.specs.Prelude.{◌*◌, ◌≤◌, ◌<◌};
 
 use anyhow::Result;
-use fills::{Fill, Order, Parts};
+use fills::{Every, Fill, Order, Parts};
 use refusals::Refusal;
 use std::io::Read;
 use std::time::CpuClock;
@@ -133,8 +133,8 @@ impl<R: Copy + CpuClock + Print> Bench<'_, R> {
     }
 
     // Hand-over of a record of so many ranges.
-    fn handed(&mut self, pages: usize, ranges: usize, every: usize) -> Result<()>
-        requires { (pages ≤ 8192) × (0 < ranges) × (ranges ≤ 512) × (0 < every) }
+    fn handed(&mut self, pages: usize, ranges: usize, every: Every) -> Result<()>
+        requires { (pages ≤ 8192) × (0 < ranges) × (ranges ≤ 512) }
     {
         let parts = Parts { pages, ranges };
         let all = parts.end() * 4096;
@@ -157,14 +157,15 @@ impl<R: Copy + CpuClock + Print> Bench<'_, R> {
     // 1,024 pages in 1, 40, 170 and 250 ranges; then 513 and 8,192 pages in one range, with as many frames as the first.
     fn hand_overs(&mut self) -> Result<()> {
         self.meter.heading("pages 1024")?;
-        self.handed(1024, 1, 2)?;
-        self.handed(1024, 40, 2)?;
-        self.handed(1024, 170, 2)?;
-        self.handed(1024, 250, 2)?;
+        let every = Every::new(2);
+        self.handed(1024, 1, every)?;
+        self.handed(1024, 40, every)?;
+        self.handed(1024, 170, every)?;
+        self.handed(1024, 250, every)?;
         self.meter.heading("pages 513")?;
-        self.handed(513, 1, 1)?;
+        self.handed(513, 1, Every::new(1))?;
         self.meter.heading("pages 8192")?;
-        self.handed(8192, 1, 16)
+        self.handed(8192, 1, Every::new(16))
     }
 
     // Soundness where frames do not follow pages.
@@ -173,17 +174,17 @@ impl<R: Copy + CpuClock + Print> Bench<'_, R> {
         self.sound(&s)
     }
 
-    fn three_aged(&mut self, order: Order) -> Result<()> {
-        self.aged(Fill::new(300, 40), order)?;
-        self.aged(Fill::new(1024, 8), order)?;
-        self.aged(Fill::new(1024, 510), order)
-    }
-
     fn all_aged(&mut self) -> Result<()> {
-        self.meter.heading("frames scattered")?;
-        self.three_aged(Order::Scattered)?;
-        self.meter.heading("frames rise")?;
-        self.three_aged(Order::Falling)
+        for (heading, order) in [
+            ("frames scattered", Order::Scattered),
+            ("frames rise", Order::Falling),
+        ] {
+            self.meter.heading(heading)?;
+            self.aged(Fill::new(300, 40), order)?;
+            self.aged(Fill::new(1024, 8), order)?;
+            self.aged(Fill::new(1024, 510), order)?;
+        }
+        Ok(())
     }
 
     // Soundness where many ranges hold one backing, the drop of the record that it came from, and soundness without that record.
@@ -194,61 +195,40 @@ impl<R: Copy + CpuClock + Print> Bench<'_, R> {
         self.sound(&s)
     }
 
-    fn cut_up(&mut self, frames: usize, cuts: usize, order: Order) -> Result<()>
-        requires { (frames ≤ 1024) × (0 < cuts) × (cuts ≤ 255) × (cuts < frames) }
+    // The same of a store that `fill` makes.
+    fn made<F: FnOnce(&mut [u8]) -> Result<Store, Refusal>>(&mut self, fill: F) -> Result<()>
+        requires { F.IsAlwaysCallable fill }
     {
-        let s = fills::shared_by_many(self.pool, frames, cuts, order)?;
+        let s = fill(self.pool)?;
         self.source_dropped(&s)
-    }
-
-    fn four_cut_up(&mut self, order: Order) -> Result<()> {
-        self.cut_up(300, 19, order)?;
-        self.cut_up(1024, 19, order)?;
-        self.cut_up(1024, 100, order)?;
-        self.cut_up(1024, 255, order)
     }
 
     fn all_cut_up(&mut self) -> Result<()> {
-        self.meter.heading("one backing, frames fall")?;
-        self.four_cut_up(Order::Rising)?;
-        self.meter.heading("one backing, frames scattered")?;
-        self.four_cut_up(Order::Scattered)?;
-        self.meter.heading("one backing, frames rise")?;
-        self.four_cut_up(Order::Falling)
-    }
-
-    fn scattered(&mut self, pieces: usize) -> Result<()>
-        requires { pieces ≤ 512 }
-    {
-        let s = fills::scattered_pieces(self.pool, pieces)?;
-        self.source_dropped(&s)
-    }
-
-    fn long_and_short(&mut self, pieces: usize) -> Result<()>
-        requires { pieces ≤ 400 }
-    {
-        let s = fills::long_and_short(self.pool, pieces)?;
-        self.source_dropped(&s)
-    }
-
-    fn overlapping(&mut self, pieces: usize) -> Result<()>
-        requires { pieces ≤ 500 }
-    {
-        let s = fills::overlapping(self.pool, pieces)?;
-        self.source_dropped(&s)
+        for (heading, order) in [
+            ("one backing, frames fall", Order::Rising),
+            ("one backing, frames scattered", Order::Scattered),
+            ("one backing, frames rise", Order::Falling),
+        ] {
+            self.meter.heading(heading)?;
+            self.made(|pool| fills::shared_by_many(pool, 300, 19, order))?;
+            self.made(|pool| fills::shared_by_many(pool, 1024, 19, order))?;
+            self.made(|pool| fills::shared_by_many(pool, 1024, 100, order))?;
+            self.made(|pool| fills::shared_by_many(pool, 1024, 255, order))?;
+        }
+        Ok(())
     }
 
     fn all_in_pieces(&mut self) -> Result<()> {
         self.meter.heading("one backing, pieces scattered")?;
-        self.scattered(150)?;
-        self.scattered(500)?;
+        self.made(|pool| fills::scattered_pieces(pool, 150))?;
+        self.made(|pool| fills::scattered_pieces(pool, 500))?;
         self.meter
             .heading("one backing, a long window beside short ones")?;
-        self.long_and_short(150)?;
-        self.long_and_short(400)?;
+        self.made(|pool| fills::long_and_short(pool, 150))?;
+        self.made(|pool| fills::long_and_short(pool, 400))?;
         self.meter.heading("one backing, windows overlap")?;
-        self.overlapping(150)?;
-        self.overlapping(500)
+        self.made(|pool| fills::overlapping(pool, 150))?;
+        self.made(|pool| fills::overlapping(pool, 500))
     }
 
     fn table(&mut self) -> Result<()> {
@@ -264,21 +244,22 @@ impl<R: Copy + CpuClock + Print> Bench<'_, R> {
     fn few_aged(&mut self) -> Result<()> {
         self.aged(Fill::new(64, 8), Order::Scattered)?;
         self.aged(Fill::new(64, 8), Order::Falling)?;
-        self.cut_up(64, 19, Order::Rising)?;
-        self.cut_up(64, 19, Order::Scattered)?;
-        self.cut_up(64, 19, Order::Falling)?;
-        self.scattered(40)?;
-        self.long_and_short(40)?;
-        self.overlapping(40)
+        for order in [Order::Rising, Order::Scattered, Order::Falling] {
+            self.made(|pool| fills::shared_by_many(pool, 64, 19, order))?;
+        }
+        self.made(|pool| fills::scattered_pieces(pool, 40))?;
+        self.made(|pool| fills::long_and_short(pool, 40))?;
+        self.made(|pool| fills::overlapping(pool, 40))
     }
 
     fn tried(&mut self) -> Result<()> {
         self.fill_measured(Fill::new(16, 8))?;
         self.fill_measured(Fill::new(15, 508))?;
         self.fill_measured(Fill::new(100, 40))?;
-        self.handed(200, 1, 2)?;
-        self.handed(200, 20, 2)?;
-        self.handed(250, 250, 2)?;
+        let every = Every::new(2);
+        self.handed(200, 1, every)?;
+        self.handed(200, 20, every)?;
+        self.handed(250, 250, every)?;
         self.few_aged()
     }
 

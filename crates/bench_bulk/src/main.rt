@@ -27,6 +27,21 @@ fn same(buf: &[u8]) -> bool {
 }
 
 // ---- lines
+// Into how many ranges half the buffer goes; all of it into twice as many.
+#[derive(Clone, Copy)]
+struct Cut {
+    half: usize,
+    ghost between: { (0 < half) × (half ≤ 255) },
+}
+
+impl Cut {
+    fn new(half: usize) -> Cut
+        requires { (0 < half) × (half ≤ 255) }
+    {
+        Cut { half }
+    }
+}
+
 // What every line is made with: the page memory, the buffer, and how a work is measured.
 #[derive(Drop)]
 struct Bulk<'a, R> {
@@ -78,31 +93,35 @@ impl<R: Copy + CpuClock + Print> Bulk<'_, R> {
     }
 
     // ---- records as long as the buffer, or half as long, in ranges that adjoin
-    fn whole(&mut self, ranges: usize) -> Result<()>
-        requires { 0 < ranges }
-    {
-        let pages = self.buf.len() / 4096;
-        let s = fills::adjoining(fills::empty()?, self.pool, 0, Parts { pages, ranges })?;
+    fn whole(&mut self, parts: Parts) -> Result<()> {
+        let s = fills::adjoining(fills::empty()?, self.pool, 0, parts)?;
         self.written_and_read(&s)
     }
 
     // With record 1, and without it.
-    fn halves(&mut self, ranges: usize) -> Result<()>
-        requires { 0 < ranges }
-    {
-        let pages = self.buf.len() / 8192;
-        let parts = Parts { pages, ranges };
+    fn halves(&mut self, parts: Parts) -> Result<()> {
         let one = fills::adjoining(fills::empty()?, self.pool, 0, parts)?;
         let two = fills::adjoining(one, self.pool, 1, parts)?;
         self.shift(&two)?;
         self.shift_new(&one)
     }
 
-    fn both(&mut self, ranges: usize) -> Result<()>
-        requires { (0 < ranges) × (ranges ≤ 255) }
-    {
-        self.whole(2 * ranges)?;
-        self.halves(ranges)
+    fn both(&mut self, cut: Cut) -> Result<()> {
+        self.whole(Parts {
+            pages: self.buf.len() / 4096,
+            ranges: 2 * cut.half,
+        })?;
+        self.halves(Parts {
+            pages: self.buf.len() / 8192,
+            ranges: cut.half,
+        })
+    }
+
+    fn all(&mut self, cuts: &[Cut]) -> Result<()> {
+        for cut in cuts {
+            self.both(*cut)?;
+        }
+        Ok(())
     }
 }
 
@@ -116,9 +135,7 @@ fn tried<R: Copy + CpuClock + Print>(
         mode: Mode::Turns(3),
         rt,
     };
-    let mut bulk = Bulk { pool, buf, meter };
-    bulk.both(4)?;
-    bulk.both(32)
+    Bulk { pool, buf, meter }.all(&[Cut::new(4), Cut::new(32)])
 }
 
 #[inline(never)]
@@ -135,10 +152,7 @@ fn timed<R: Copy + CpuClock + Print>(pool: &mut [u8], buf: &mut [u8], rt: R) -> 
         mode: Mode::Time,
         rt,
     };
-    let mut bulk = Bulk { pool, buf, meter };
-    bulk.both(4)?;
-    bulk.both(20)?;
-    bulk.both(255)
+    Bulk { pool, buf, meter }.all(&[Cut::new(4), Cut::new(20), Cut::new(255)])
 }
 
 // Four starts of the buffer, 16 bytes apart: what a copy costs depends on how the bytes of the buffer and those of a frame lie to each other in a line of the cache.

@@ -90,5 +90,5 @@ module _ (c : Call) (s : Store) (a : Answer) (d : (j : ℕ) → declined c j ≡
   did_decline e r = did_refused c s a (number e) (number_positive e) r d
 
   -- or at its entry
-  pub did_not_enter : {T : Type 0} (e : Refusal) {charts : Charts} → Tried {T = T} s (Err e) charts → Did c s (number e) a s
+  pub did_not_enter : {T : Type 0} (e : Refusal) {charts : T → Charts} → Tried {T = T} s (Err e) charts → Did c s (number e) a s
   did_not_enter e t = did_decline e (λ x. tried_refuses t x c)

@@ -4,7 +4,7 @@ use Rattle.std.proofs.Common.{ap, sym, subst, ◌∙◌, arith, leb-true}
 use Rattle.store.specs.declared.Store.{Store}
 use Rattle.lists.specs.Every.{All, both_true}
 use Rattle.lists.specs.Listed.{one_at}
-use Rattle.book.specs.Book.{done, refused, create}
+use Rattle.book.specs.Book.{done, create}
 use Rattle.std.proofs.lemmas.List.{length-replicate}
 use Rattle.table.specs.declared.PageRange.{PageRange}
 use Rattle.places.specs.declared.Place.{Place}

@@ -83,5 +83,5 @@ module _ (c : Call) (s : Store) (x : List ℕ) (a : Answer) (d : (j : ℕ) → d
   with_decline e r = with_refused c s x a (number e) (number_positive e) r d
 
   -- or at its entry
-  pub with_not_enter : {T : Type 0} (e : Refusal) {charts : Charts} → Tried {T = T} s (Err e) charts → DidWith c s x (number e) a s x
+  pub with_not_enter : {T : Type 0} (e : Refusal) {charts : T → Charts} → Tried {T = T} s (Err e) charts → DidWith c s x (number e) a s x
   with_not_enter e t = with_decline e (tried_refuses t x c)

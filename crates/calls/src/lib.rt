@@ -18,7 +18,7 @@ use charts::Charts;
 use look::State;
 use page::PageNumber;
 use places::Place;
-use refusals::{Entry, Refusal};
+use refusals::Refusal;
 use store::Store;
 use table::{PageRange, line_of};
 
@@ -26,7 +26,7 @@ pub fn new_object(mut s: Store, object: u32) -> Result<Store, Refusal>
     ensures { Did (new_object object) s (number_of result) done (left s result) }
 {
     let mut charts = Charts::new();
-    refusals::enter(&s, &mut charts)?.new_object(object)?;
+    refusals::enter(&s, &mut charts)?.sound.new_object(object)?;
     s.live |= 1 << object;
     Ok(s)
 }
@@ -36,12 +36,8 @@ pub fn look_up(s: Store, object: u32, page: PageNumber) -> Result<State, Refusal
     ensures { Did (look_up object page.0) s (number_of result) (state (state_in result)) s }
 {
     let mut charts = Charts::new();
-    let sound = refusals::enter(&s, &mut charts)?;
-    sound.look_up(object, page)?;
-    let entry = Entry {
-        sound,
-        charts: &charts,
-    };
+    let entry = refusals::enter(&s, &mut charts)?;
+    entry.sound.look_up(object, page)?;
     Ok(entry.states().of(line_of(object, page)))
 }
 
@@ -54,13 +50,9 @@ pub struct Numbers {
 
 // How many frames are in use.
 fn used_count(s: &Store) -> usize
-    requires { s.now.frames ≤ 1024 }
     ensures { result ≡ used_count (take s.now.frames s.now.places) }
 {
-    s.places[..s.frames]
-        .iter()
-        .filter(|p| 0 < p.backing)
-        .count()
+    s.frame_places().iter().filter(|p| !p.is_free()).count()
 }
 
 pub fn counts(s: Store) -> Result<Numbers, Refusal>
@@ -98,6 +90,14 @@ pub struct NotCreated {
     pub store: Store,
 }
 
+impl From<NotCreated> for Refusal {
+    ghost from_gives = { λ not_created refusal. refusal ≡ not_created.refusal };
+
+    fn from(not_created: NotCreated) -> Refusal {
+        not_created.refusal
+    }
+}
+
 pub fn create(frames: usize) -> Result<Store, NotCreated>
     ensures { Created frames (created_number result) (created_store result) }
 {
@@ -128,7 +128,7 @@ pub fn drop_object(mut s: Store, object: u32) -> Result<Store, Refusal>
     ensures { Did (drop_object object) s (number_of result) done (left s result) }
 {
     let mut charts = Charts::new();
-    refusals::enter(&s, &mut charts)?.drop_object(object)?;
+    refusals::enter(&s, &mut charts)?.sound.drop_object(object)?;
     take_object(&mut s, object);
     Ok(s)
 }

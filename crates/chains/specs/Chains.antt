@@ -1,11 +1,9 @@
 -- What a chain visits: going from link to link passes over no entry of the chain.
-use Rattle.std.specs.Prelude.{◌≡◌, Bool, true, false, List, eqb, drop, get_or, length, replicate, set, take}
+use Rattle.std.specs.Prelude.{◌≡◌, Bool, true, false, List, eqb, get_or, length, set}
 use Rattle.std.proofs.Math.Path.{refl, sym}
-use Rattle.std.proofs.Common.{ap, ◌∙◌, not-suc-le-zero, add-one, length-drop, drop-set-lt, get_or-drop, get_or-set_other, get_or-set_same, get_or-take, length-take-le, eq-eqb, ne_eqb}
-use Prim.Native.Nat.{ℕ, zero, suc, ◌+◌, ◌-◌, ◌%◌, ◌≤◌, ◌<◌, zero-le}
+use Rattle.std.proofs.Common.{ap, ◌∙◌, not-suc-le-zero, add-one, get_or-set_other, get_or-set_same, eq-eqb, ne_eqb}
+use Prim.Native.Nat.{ℕ, zero, suc, ◌+◌, ◌-◌, ◌≤◌, ◌<◌, zero-le}
 use native.Mathlib.Omega.{arith}
-use Rattle.std.proofs.lemmas.List.{get_or-replicate, drop-set-add, take-set-le}
-use Rattle.std.proofs.Math.Seq.{take-set-lt}
 use Rattle.lists.specs.Test.{pick, by-eq, by-test}
 
 -- one more than the last number below n with the property, or 0

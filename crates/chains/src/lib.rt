@@ -3,7 +3,11 @@
 // are indices and not boxes; a link takes half the bytes of an `Option` of it.
 #![tactic(auto)]
 
-ghost use Rattle.std.specs.Prelude.{◌≡◌, ◌+◌, ◌≤◌, ◌<◌, get_or, replicate, set};
+ghost use Rattle.std.specs.Prelude.{◌≡◌, List, ℕ, ◌+◌, ◌≤◌, ◌<◌, get_or, replicate, set};
+ghost use Rattle.std.specs.Iterator.{YieldsFirst, item_count};
+ghost use Rattle.chains.specs.Entries.{entries, left, link_of};
+
+use std::marker::Model;
 
 // Where each of the 1,024 chains begins, at its last entry, and where each entry's chain goes on.
 #[derive(Clone, Copy)]
@@ -31,5 +35,71 @@ impl Chains {
     {
         self.next[i] = self.heads[h];
         self.heads[h] = (i as u16) + 1;
+    }
+
+    // The entries of chain h, the last first.
+    pub fn chain(&self, h: usize) -> Chain<'_>
+        requires { h < 1024 }
+        ensures { result ≡ entries self.now.next (get_or self.now.heads h 0) }
+    {
+        Chain {
+            next: &self.next,
+            link: self.heads[h],
+            passed: false,
+        }
+    }
+
+    // Those of the chain of entry i that come behind it.
+    pub fn before(&self, i: usize) -> Chain<'_>
+        requires { i < 1024 }
+        ensures { result ≡ entries self.now.next (get_or self.now.next i 0) }
+    {
+        Chain {
+            next: &self.next,
+            link: self.next[i],
+            passed: false,
+        }
+    }
+}
+
+// The entry that a link leads to; link 0 is the end of a chain.
+pub fn entry(link: u16) -> Option<usize>
+    ensures { link_of result ≡ link }
+{
+    usize::from(link).checked_sub(1)
+}
+
+// What is left of a chain: seen as the list of its entries.
+#[derive(Drop)]
+pub struct Chain<'a> {
+    next: &'a [u16; 1024],
+    link: u16,
+    // whether the entry that the link leads to is passed: its own link is looked at only when the entry behind it is asked for
+    passed: bool,
+}
+
+impl<'a> Model for Chain<'a> {
+    ghost Value = { List ℕ };
+
+    ghost view = { λ s. left s.next.now s.link s.passed };
+}
+
+// A link that leads no lower than its own entry counts as one to the next lower entry, so that every chain ends.
+impl Iterator for Chain<'_> {
+    type Item = usize;
+
+    ghost next_gives = { YieldsFirst (λ s. s) };
+
+    ghost remaining = { item_count (λ s. s) };
+
+    fn next(&mut self) -> Option<usize> {
+        let next = self.next;
+        if self.passed {
+            let link = *next.get(entry(self.link)?)?;
+            self.link = link.min(self.link - 1);
+        }
+        self.passed = true;
+        let i = entry(self.link)?;
+        next.get(i).and(Some(i))
     }
 }

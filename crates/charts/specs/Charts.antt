@@ -1,12 +1,21 @@
 -- Which entries stand in one chain.
-use Rattle.std.specs.Prelude.{List, ℕ, ◌+◌, ◌*◌, ◌/◌, ◌%◌, eqb, get_or}
+use Rattle.std.specs.Prelude.{◌≡◌, List, ℕ, ◌+◌, ◌*◌, ◌/◌, ◌%◌, eqb, get_or, replicate}
 use Rattle.table.specs.declared.PageRange.{PageRange}
 use Rattle.places.specs.declared.Place.{Place}
 use Rattle.chains.specs.declared.Chains.{Chains}
+use Rattle.charts.specs.declared.Charts.{Charts}
 use Rattle.lists.specs.Test.{pick}
 use Rattle.chains.specs.Chains.{Chained}
 use Rattle.table.specs.Table.{number_of, zero_range}
 use Rattle.places.specs.Places.{place_at}
+
+-- chains without an entry
+abbrev pub Empty : Chains → Type 0
+Empty c = (c.heads ≡ replicate 1024 0) × (c.next ≡ replicate 1024 0)
+
+-- charts without an entry
+abbrev pub EmptyCharts : Charts → Type 0
+EmptyCharts c = Empty c.ranges × Empty c.frames
 
 -- the chain of range i: that of its backing's number
 abbrev pub backing_at : List PageRange → ℕ → ℕ

@@ -2,8 +2,8 @@
 // backing, are found without going through all.
 #![tactic(auto)]
 
-ghost use Rattle.std.specs.Prelude.{◌≡◌, ◌%◌, replicate};
-ghost use Rattle.charts.specs.Charts.{chain_to};
+ghost use Rattle.std.specs.Prelude.{◌≡◌, ◌%◌};
+ghost use Rattle.charts.specs.Charts.{chain_to, EmptyCharts};
 
 use chains::Chains;
 
@@ -17,8 +17,7 @@ pub struct Charts {
 impl Charts {
     // Charts without an entry.
     pub const fn new() -> Charts
-        ensures ranges { (result.ranges.heads ≡ replicate 1024 0) × (result.ranges.next ≡ replicate 1024 0) }
-        ensures frames { (result.frames.heads ≡ replicate 1024 0) × (result.frames.next ≡ replicate 1024 0) }
+        ensures { EmptyCharts result }
     {
         Charts {
             ranges: Chains::new(),

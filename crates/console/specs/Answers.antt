@@ -4,7 +4,7 @@ use Rattle.std.proofs.Common.{ap, subst, sym, ◌∙◌, append_assoc, append-ni
 use Rattle.std.proofs.lemmas.List.{take_rest}
 use Rattle.console.specs.Scan.{index_of}
 use Rattle.store.specs.declared.Store.{Store}
-use Rattle.console.specs.Buffers.{take_least}
+use Rattle.lines.specs.Buffers.{take_least}
 use Rattle.lines.specs.Did.{LineDid}
 use Rattle.console.specs.Lines.{feed, cut, ended, underway, last, ended_next, underway_next, ended_none, underway_none, cut_cut}
 

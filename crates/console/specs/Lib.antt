@@ -1,4 +1,3 @@
 pub mod Scan
 pub mod Lines
 pub mod Answers
-pub mod Buffers

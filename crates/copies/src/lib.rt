@@ -3,35 +3,43 @@
 
 ghost use Rattle.book.specs.Copy.{copy_equal, copying, zeroing};
 ghost use Rattle.book.specs.Book.{copy, shadow, zero_out, done};
-ghost use Rattle.store.specs.Spare.{work_of};
 ghost use Rattle.charts.specs.Charts.{RangeChains};
 ghost use Rattle.lookup.specs.Charted.{Charted};
 ghost use Rattle.refusals.specs.Number.{number_of};
 ghost use Rattle.calls.specs.Calls.{left};
 ghost use Rattle.calls.specs.With.{DidWith};
-ghost use Rattle.copies.specs.Room.{ZeroRoom, EqualRoom, CopyRoom, Worked};
+ghost use Rattle.page_steps.specs.Lent.{state};
+ghost use Rattle.copies.specs.Lent.{Works};
+ghost use Rattle.copies.specs.Room.{ZeroRoom, EqualRoom, CopyRoom};
 
 use charts::Charts;
 use page::PageNumber;
-use refusals::{Entry, Extent, Passage, Refusal};
+use page_steps::Work;
+use page_writes::Copier;
+use refusals::{Extent, Passage, Refusal};
 use store::Store;
 use whole_pages::SharedPages;
 
 // "Zeroing leaves whole pages uncovered and clears bytes in present partial pages."
-fn zero_span(s: &mut Store, pool: &mut [u8], extent: Extent)
-    requires { ZeroRoom s.old pool.old extent.object extent.offset extent.n }
-    ensures { Worked s.old pool.old (zeroing extent.object extent.offset extent.n (work_of s.old pool.old)) s.new pool.new }
+fn zero_span(work: &mut Work, extent: Extent)
+    requires { ZeroRoom work.old.store.now work.old.pool.now extent.object extent.offset extent.n }
+    ensures { Works work.old (zeroing extent.object extent.offset extent.n (state work.old)) work.new }
 {
     let object = extent.object;
     let span = PageNumber::span_of(extent.offset, extent.n);
-    page_steps::clear_page(s, pool, object, extent.offset, span.head);
+    work.clear_page(object, extent.offset, span.head);
     let whole = extent.offset + span.head;
-    whole_pages::uncover(s, object, PageNumber::from_offset(whole), span.whole);
+    whole_pages::uncover(
+        work.store,
+        object,
+        PageNumber::from_offset(whole),
+        span.whole,
+    );
     let tail = whole + span.whole * PageNumber::PAGE_SIZE;
-    page_steps::clear_page(s, pool, object, tail, span.tail);
+    work.clear_page(object, tail, span.tail);
 }
 
-// The extent, as the call has it. By hand: the parameters are those of the call in the Rust.
+// Bytes of an object zeroed. By hand: the parameters are those that 01 gives the call.
 pub fn zero_ranges(
     mut s: Store,
     pool: &mut [u8],
@@ -43,62 +51,58 @@ pub fn zero_ranges(
 {
     let extent = Extent { object, offset, n };
     let mut charts = Charts::new();
-    let sound = refusals::enter(&s, &mut charts)?;
-    let entry = Entry {
-        sound,
-        charts: &charts,
-    };
+    let entry = refusals::enter(&s, &mut charts)?;
     entry.zero(pool.len(), extent)?;
-    zero_span(&mut s, pool, extent);
+    let mut work = Work {
+        store: &mut s,
+        pool,
+    };
+    zero_span(&mut work, extent);
     freeing::renew(&mut s);
     Ok(s)
 }
 
 // "A copy at equal places copies its partly touched pages as bytes and shares whole pages."
-fn copy_equal(s: &mut Store, charts: &Charts, pool: &mut [u8], passage: Passage)
-    requires { EqualRoom s.old pool.old passage.source passage.from passage.object passage.to passage.n }
-    ensures { Worked s.old pool.old (copy_equal passage.source passage.from passage.object passage.to passage.n (work_of s.old pool.old)) s.new pool.new }
+fn copy_equal(work: &mut Work, copier: &Copier)
+    requires { EqualRoom work.old.store.now work.old.pool.now copier.now.between.passage.source copier.now.between.passage.from copier.now.between.passage.object copier.now.between.passage.to copier.now.between.passage.n }
+    ensures { Works work.old (copy_equal copier.now.between.passage.source copier.now.between.passage.from copier.now.between.passage.object copier.now.between.passage.to copier.now.between.passage.n (state work.old)) work.new }
 {
-    let span = PageNumber::span_of(passage.from, passage.n);
-    let head = Passage {
-        n: span.head,
-        ..passage
-    };
-    page_writes::copy_bytes(s, charts, pool, head);
-    let first = PageNumber::from_offset(passage.from + span.head);
-    let place = PageNumber::from_offset(passage.to + span.head);
+    let Passage {
+        source,
+        from,
+        object,
+        to,
+        n,
+    } = copier.between.passage;
+    let span = PageNumber::span_of(from, n);
+    copier.part(0, span.head).copy_bytes(work);
     let shared = SharedPages {
-        source: passage.source,
-        from: first,
-        object: passage.object,
-        to: place,
+        source,
+        from: PageNumber::from_offset(from + span.head),
+        object,
+        to: PageNumber::from_offset(to + span.head),
         n: span.whole,
     };
-    whole_pages::copy_range_to_object_tree(s, shared);
+    whole_pages::copy_range_to_object_tree(work.store, shared);
     let done = span.head + span.whole * PageNumber::PAGE_SIZE;
-    let tail = Passage {
-        from: passage.from + done,
-        to: passage.to + done,
-        n: span.tail,
-        ..passage
-    };
-    page_writes::copy_bytes(s, charts, pool, tail);
+    copier.part(done, span.tail).copy_bytes(work);
 }
 
 // "At unequal places all is bytes, absent source bytes being zeros."
-fn copy_span(s: &mut Store, charts: &Charts, pool: &mut [u8], passage: Passage)
-    requires room { CopyRoom s.old pool.old passage.source passage.from passage.object passage.to passage.n }
-    requires charted { (Charted s.old charts.now) × (RangeChains s.old.ranges s.old.count charts.now.ranges) }
-    ensures { Worked s.old pool.old (copying passage.source passage.from passage.object passage.to passage.n (work_of s.old pool.old)) s.new pool.new }
+fn copy_span(work: &mut Work, copier: &Copier)
+    requires room { CopyRoom work.old.store.now work.old.pool.now copier.now.between.passage.source copier.now.between.passage.from copier.now.between.passage.object copier.now.between.passage.to copier.now.between.passage.n }
+    requires charted { (Charted work.old.store.now copier.now.charts.now) × (RangeChains work.old.store.now.ranges work.old.store.now.count copier.now.charts.now.ranges) }
+    ensures { Works work.old (copying copier.now.between.passage.source copier.now.between.passage.from copier.now.between.passage.object copier.now.between.passage.to copier.now.between.passage.n (state work.old)) work.new }
 {
-    if PageNumber::place(passage.from) == PageNumber::place(passage.to) {
-        copy_equal(s, charts, pool, passage);
+    let Passage { from, to, .. } = copier.between.passage;
+    if PageNumber::place(from) == PageNumber::place(to) {
+        copy_equal(work, copier);
     } else {
-        page_writes::copy_over(s, charts, pool, passage);
+        copier.copy_over(work);
     }
 }
 
-// The passage, as the call has it. By hand: the parameters are those of the call in the Rust.
+// Bytes copied from object to object. By hand: the parameters are those that 01 gives the call.
 pub fn copy_ranges(
     mut s: Store,
     pool: &mut [u8],
@@ -118,18 +122,22 @@ pub fn copy_ranges(
         n,
     };
     let mut charts = Charts::new();
-    let sound = refusals::enter(&s, &mut charts)?;
-    let entry = Entry {
-        sound,
-        charts: &charts,
+    let entry = refusals::enter(&s, &mut charts)?;
+    let copier = Copier {
+        between: entry.copy(pool.len(), passage)?,
+        charts: entry.charts,
     };
-    entry.copy(pool.len(), passage)?;
-    copy_span(&mut s, &charts, pool, passage);
+    let mut work = Work {
+        store: &mut s,
+        pool,
+    };
+    copy_span(&mut work, &copier);
     freeing::renew(&mut s);
     Ok(s)
 }
 
-// "The shadow copy ignores the destination's place within a page": whole pages are shared, and no byte of the pool changes.
+// "The shadow copy ignores the destination's place within a page": whole pages are shared, and no byte of the pool changes. By hand: the parameters are those that 01
+// gives the call.
 pub fn copy_range_to_shadow(
     mut s: Store,
     pool: &[u8],
@@ -149,7 +157,9 @@ pub fn copy_range_to_shadow(
         n,
     };
     let mut charts = Charts::new();
-    refusals::enter(&s, &mut charts)?.shadow(pool.len(), passage)?;
+    refusals::enter(&s, &mut charts)?
+        .sound
+        .shadow(pool.len(), passage)?;
     let shared = SharedPages {
         source,
         from: PageNumber::from_offset(from),

@@ -1,16 +1,16 @@
 // Runs copies of bytes, from and to pages that are present, absent or shared. Answers are written by hand from document 01. One line a case.
 #![tactic(auto)]
 
-ghost use Rattle.std.specs.Prelude.{◌+◌, ◌≤◌, ◌<◌};
-
-use access_samples::{bare, five, frames, fresh, halves, high, leaves, read_is, small, thirds};
+use access_samples::{
+    bare, filled, five, frames, fresh, halves, high, leaves, read_is, small, thirds, two_pages,
+};
 use copy_samples::{across, copied, copy, quiet, shadows};
 use refusals::Passage;
 use samples::{FREE, many, place, private, report, single};
 use store::Store;
 
 // ---- bytes between present pages
-// Pages 0 and 1 of object 0 in frames 4 and 3, of object 1 in frames 2 and 1; no frame is free.
+// Pages 0 and 1 of object 0 in frames 4 and 3, of object 1 in frames 2 and 1; no frame is free. By hand: the store of a case is told by a table of its own.
 fn both() -> Store {
     let a = [
         many(0, 0, 2, 0, 1),
@@ -28,11 +28,8 @@ fn both() -> Store {
 }
 
 // The bytes at one place of the pool are b then; the store stays.
-fn lands(name: &str, passage: Passage, at: usize, b: u8)
-    requires { at + passage.n ≤ 20480 }
-{
-    let mut want = five();
-    pool::fill(&mut want, at, passage.n, b);
+fn lands(name: &str, passage: Passage, at: usize, b: u8) {
+    let want = filled(five(), at, passage.n, b);
     copied(name, both(), passage, both(), &want);
 }
 
@@ -55,12 +52,9 @@ fn bytes() {
 }
 
 // The bytes but the last are b at one place, and the last is c at another.
-fn crosses(name: &str, passage: Passage, at: usize, b: u8, then: usize, c: u8)
-    requires { (0 < passage.n) × (at + passage.n ≤ 20480) × (then < 20480) }
-{
-    let mut want = five();
-    pool::fill(&mut want, at, passage.n - 1, b);
-    want[then] = c;
+fn crosses(name: &str, passage: Passage, at: usize, b: u8, then: usize, c: u8) {
+    let want = filled(five(), at, passage.n.saturating_sub(1), b);
+    let want = filled(want, then, 1, c);
     copied(name, both(), passage, both(), &want);
 }
 
@@ -96,8 +90,7 @@ fn sevens() {
     let r = copy(s, &mut pool, across(4000, 0, 4096));
     let p = high(place(2, 0), place(1, 1));
     let t = small(3, &[a, single(1, 0, 1, 0, 2)], &p, 7);
-    let mut want = frames(&[1, 2, 3, 7, 7]);
-    pool::fill(&mut want, 12288, 96, 0);
+    let want = filled(frames(&[1, 2, 3, 7, 7]), 12288, 96, 0);
     report(
         "(k) 96 zeros, then 4000 sevens",
         leaves(r, t) && pool == want,
@@ -165,8 +158,6 @@ fn unequal_pool() -> [u8; 20480] {
 }
 
 fn unequal_pages() {
-    let a = many(0, 0, 2, 0, 1);
-    let s = small(3, &[a], &high(place(1, 1), place(1, 0)), 7);
     let p = [
         place(2, 2),
         place(2, 1),
@@ -174,10 +165,11 @@ fn unequal_pages() {
         place(1, 1),
         place(1, 0),
     ];
-    let t = small(3, &[a, many(1, 0, 3, 0, 2)], &p, 0);
+    let a = [many(0, 0, 2, 0, 1), many(1, 0, 3, 0, 2)];
+    let t = small(3, &a, &p, 0);
     copied(
         "two pages at unequal places become three",
-        s,
+        two_pages(),
         across(0, 1, 8192),
         t,
         &unequal_pool(),
@@ -204,7 +196,7 @@ fn into_shared() {
     report("the source", read_is(s, &pool, 0, 24576, &[9, 4, 4, 4]));
 }
 
-// The parts, one after another. By hand: a table of them would be one of function pointers.
+// The parts, one after another. By hand: a table of functions and a loop over it say no more than the calls.
 fn main() {
     bytes();
     bytes_over_edges();

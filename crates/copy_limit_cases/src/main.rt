@@ -3,10 +3,10 @@
 
 ghost use Rattle.std.specs.Prelude.{◌+◌, ◌≤◌, length};
 
-use access_samples::{done, five, fresh, high, paged, small};
-use copy_samples::{across, copied, copy, copy_turned, packed, rows, shadow, turned};
+use access_samples::{done, filled, five, fresh, high, paged, shared_full, small, twice_full};
+use copy_samples::{across, copied, copy, copy_turned, packed, packed_full, rows, shadow, turned};
 use refusals::{Passage, Refusal};
-use samples::{FREE, full_table, many, place, report, single};
+use samples::{FREE, many, place, report, single};
 use store::Store;
 use table::PageRange;
 
@@ -39,8 +39,7 @@ fn one_free() {
     ];
     let p = [FREE, place(3, 0), place(1, 2), FREE, place(1, 0)];
     let t = small(3, &r, &p, 9);
-    let mut want = five();
-    pool::fill(&mut want, 20384, 96, 0);
+    let want = filled(five(), 20384, 96, 0);
     let passage = across(4000, 4000, 4192);
     copied("part of one, one frame free", s, passage, t, &want);
 }
@@ -59,8 +58,7 @@ fn one_free_unequal() {
     );
     p[0] = place(3, 0);
     let t = small(3, &[a, b, single(1, 0, 1, 0, 3)], &p, 0);
-    let mut want = five();
-    pool::fill(&mut want, 1, 4095, 5);
+    let mut want = filled(five(), 1, 4095, 5);
     want[0] = 0;
     copied(
         "unequal places in one, one frame free",
@@ -90,19 +88,7 @@ fn no_frame() {
 
 // Page 0 of both objects in frame 4, the other frames in use.
 fn no_frame_shared() {
-    let a = [
-        single(0, 0, 1, 0, 1),
-        single(1, 0, 1, 0, 1),
-        many(1, 9, 4, 0, 2),
-    ];
-    let p = [
-        place(2, 0),
-        place(2, 1),
-        place(2, 2),
-        place(2, 3),
-        place(1, 0),
-    ];
-    let s = small(3, &a, &p, 0);
+    let s = shared_full();
     let why = Refusal::NoFrame;
     copy_turned("8: a byte to a shared page", s, across(5, 5, 1), why);
     copy_turned(
@@ -117,13 +103,7 @@ fn no_frame_shared() {
 
 // Pages 0 and 1 of object 1 are the same page, and frame 3 alone is free.
 fn no_frame_twice() {
-    let a = [
-        single(1, 0, 1, 0, 1),
-        single(1, 1, 1, 0, 1),
-        many(1, 100, 3, 0, 2),
-    ];
-    let p = [place(2, 0), place(2, 1), place(2, 2), FREE, place(1, 0)];
-    let s = small(3, &a, &p, 8);
+    let s = twice_full(3, 1);
     let why = Refusal::NoFrame;
     copy_turned(
         "8: two pages count that would take one frame",
@@ -135,7 +115,8 @@ fn no_frame_twice() {
 }
 
 // ---- the last slot
-// The first slots of a full table, its page 0 in frame 4, and these ranges behind them.
+// The first slots of a full table, its page 0 in frame 4, and these ranges behind them. By hand, here and in `slots_then`: the bound is that of `rows`,
+// for which a struct would be made at each call.
 fn slots(first: usize, last: &[PageRange]) -> Store
     requires { first + length last.now ≤ 512 }
 {
@@ -166,8 +147,7 @@ fn no_slot() {
     let page = across(4096, 4096, 4096);
     both("512 ranges: a page of nothing", s, page, s);
     both("512 ranges: nothing copied", s, across(0, 0, 0), s);
-    let t = small(3, &full_table(), &paged().places, 0);
-    copy_turned("8 comes before 9", t, bytes, Refusal::NoFrame);
+    copy_turned("8 comes before 9", packed_full(), bytes, Refusal::NoFrame);
 }
 
 fn two_slots() {
@@ -217,7 +197,7 @@ fn four_slots_part() {
     );
 }
 
-// The parts, one after another. By hand: a table of them would be one of function pointers.
+// The parts, one after another. By hand: a table of functions and a loop over it say no more than the calls.
 fn main() {
     one_free();
     one_free_unequal();

@@ -1,8 +1,6 @@
 // Runs copies and shadow copies through the table of refusals. Answers are written by hand from document 01. One line a case.
 #![tactic(auto)]
 
-ghost use Rattle.std.specs.Prelude.{◌≤◌};
-
 use access_samples::{halves, paged, spoiled_halves};
 use copy_samples::{
     across, both_refused, copy_refused, copy_turned, packed, shadow_refused, turned,
@@ -24,9 +22,7 @@ fn page(source: u32, object: u32) -> Passage {
 }
 
 // By both calls, where the first m bytes of a pool are lent.
-fn refused(name: &str, s: Store, m: usize, passage: Passage, why: Refusal)
-    requires { m ≤ 24576 }
-{
+fn refused(name: &str, s: Store, m: usize, passage: Passage, why: Refusal) {
     report(name, both_refused(s, m, passage, why));
 }
 
@@ -148,7 +144,7 @@ fn table_whole() {
     shadow_turned("7 comes before 9", packed(), across(0, 0, 4097), why);
 }
 
-// The parts, one after another. By hand: a table of them would be one of function pointers.
+// The parts, one after another. By hand: a table of functions and a loop over it say no more than the calls.
 fn main() {
     table_store();
     table_pool();

@@ -1,9 +1,11 @@
 // What the programs that run copies, shadow copies and zeroing share: cases that are done, and cases that are refused.
+// By hand: a case is told in one call, so that it stands in one line: `s`, the store, and `passage`, what is copied, with `t`, the store that is left; or, of a
+// refusal, `m`, the bytes of the pool that are lent, and `why`.
 #![tactic(auto)]
 
 ghost use Rattle.std.specs.Prelude.{◌≡◌, ◌+◌, ◌≤◌, length};
 
-use access_samples::{done, five, high, refused, small};
+use access_samples::{done, five, high, paged, refused, small};
 use places::Place;
 use refusals::{Extent, Passage, Refusal};
 use samples::{FREE, full_table, place, report};
@@ -11,10 +13,9 @@ use store::Store;
 use table::PageRange;
 
 // ---- a store
-// The first slots of a full table, these ranges behind them, and these places.
+// The first slots of a full table, these ranges behind them, and these places. By hand: a struct with the bound as its ghost field would be made for each call, and for that alone.
 pub fn rows(first: usize, last: &[PageRange], places: &[Place], w: u64) -> Store
-    requires ranges { first + length last.now ≤ 512 }
-    requires places { length places.now ≤ 1024 }
+    requires { first + length last.now ≤ 512 }
 {
     let mut table = full_table();
     let end = first + last.len();
@@ -25,6 +26,11 @@ pub fn rows(first: usize, last: &[PageRange], places: &[Place], w: u64) -> Store
 // A table without an unused slot, its page 0 in frame 4.
 pub fn packed() -> Store {
     rows(512, &[], &high(FREE, place(1, 0)), 15)
+}
+
+// And no frame free: they stand as those of five pages.
+pub fn packed_full() -> Store {
+    rows(512, &[], &paged().places, 0)
 }
 
 // ---- the calls
@@ -80,28 +86,20 @@ pub fn uncovers(name: &str, s: Store, extent: Extent, t: Store) {
 }
 
 // ---- refusals, where the first m bytes of a pool of sevens are lent: the pool stays
-pub fn copy_refused(s: Store, m: usize, passage: Passage, why: Refusal) -> bool
-    requires { m ≤ 24576 }
-{
+pub fn copy_refused(s: Store, m: usize, passage: Passage, why: Refusal) -> bool {
     refused(|pool| copy(s, pool, passage), m, why)
 }
 
-pub fn shadow_refused(s: Store, m: usize, passage: Passage, why: Refusal) -> bool
-    requires { m ≤ 24576 }
-{
+pub fn shadow_refused(s: Store, m: usize, passage: Passage, why: Refusal) -> bool {
     refused(|pool| shadow(s, pool, passage), m, why)
 }
 
-pub fn zero_refused(s: Store, m: usize, extent: Extent, why: Refusal) -> bool
-    requires { m ≤ 24576 }
-{
+pub fn zero_refused(s: Store, m: usize, extent: Extent, why: Refusal) -> bool {
     refused(|pool| zero(s, pool, extent), m, why)
 }
 
 // By both calls.
-pub fn both_refused(s: Store, m: usize, passage: Passage, why: Refusal) -> bool
-    requires { m ≤ 24576 }
-{
+pub fn both_refused(s: Store, m: usize, passage: Passage, why: Refusal) -> bool {
     copy_refused(s, m, passage, why) && shadow_refused(s, m, passage, why)
 }
 

@@ -3,7 +3,7 @@
 
 use table::PageRange;
 
-// A table of ranges: the first `count` slots are used.
+// A table of ranges: the first `count` slots are used. By hand, as in the store: unused slots are part of the value.
 #[derive(Clone, Copy, PartialEq, Eq)]
 pub struct RangeTable {
     pub ranges: [PageRange; 512],

@@ -1,7 +1,7 @@
 // STORES OF 1,024 FRAMES, FILLED BY CALLS ALONE, for the programs that measure. Names 0 to 30 are live; record 30 has no page, and name 31 is unused.
 #![tactic(auto)]
 
-ghost use Rattle.std.specs.Prelude.{◌+◌, ◌*◌, ◌≤◌, ◌<◌};
+ghost use Rattle.std.specs.Prelude.{◌≡◌, ◌+◌, ◌*◌, ◌≤◌, ◌<◌};
 
 use page::PageNumber;
 use refusals::Refusal;
@@ -138,6 +138,30 @@ impl Fill {
     }
 }
 
+// ---- pages that are added of a range
+// Each `step`th page, and the last, so that all of them are covered.
+#[derive(Clone, Copy)]
+pub struct Every {
+    pub step: usize,
+    ghost some: { 0 < step },
+}
+
+impl Every {
+    pub fn new(step: usize) -> Every
+        requires { 0 < step }
+        ensures { result.step ≡ step }
+    {
+        Every { step }
+    }
+
+    // Whether page q of n is one of them.
+    fn wants(self, q: usize, n: usize) -> bool
+        requires { q < n }
+    {
+        q + 1 == n || q % self.step == 0
+    }
+}
+
 // ---- calls, one after another
 // A store, and the page memory that its calls work on.
 #[derive(Drop)]
@@ -146,16 +170,15 @@ struct Filling<'a> {
     pool: &'a mut [u8],
 }
 
-// Page q of a range of n pages is to be added: each `every`th one, and the last, so that all n pages are covered.
-fn wanted(q: usize, n: usize, every: usize) -> bool
-    requires { (q < n) × (0 < every) }
-{
-    q + 1 == n || q % every == 0
-}
-
+// By hand: `object` and `page` are those that document 01 gives the calls.
 impl<'a> Filling<'a> {
     fn new(store: Store, pool: &'a mut [u8]) -> Filling<'a> {
         Filling { store, pool }
+    }
+
+    // From a store of names alone.
+    fn empty(pool: &'a mut [u8]) -> Result<Filling<'a>, Refusal> {
+        Ok(Filling::new(empty()?, pool))
     }
 
     fn add(&mut self, object: u32, page: usize) -> Result<(), Refusal> {
@@ -183,11 +206,9 @@ impl<'a> Filling<'a> {
     }
 
     // The wanted pages of those, in rising order: one range.
-    fn run(&mut self, pages: Pages, every: usize) -> Result<(), Refusal>
-        requires { 0 < every }
-    {
+    fn run(&mut self, pages: Pages, every: Every) -> Result<(), Refusal> {
         for q in 0..pages.count {
-            if wanted(q, pages.count, every) {
+            if every.wants(q, pages.count) {
                 self.add(pages.object, pages.first + q)?;
             }
         }
@@ -198,7 +219,7 @@ impl<'a> Filling<'a> {
     fn rest(&mut self, pages: Pages, order: Order) -> Result<(), Refusal> {
         for i in 0..pages.count {
             let q = order.place(i, pages.count);
-            if !wanted(q, pages.count, 16) {
+            if !Every::new(16).wants(q, pages.count) {
                 self.add(pages.object, pages.first + q)?;
             }
         }
@@ -208,9 +229,9 @@ impl<'a> Filling<'a> {
     // One range, all of its pages present.
     fn range(&mut self, pages: Pages, order: Order) -> Result<(), Refusal> {
         match order {
-            Order::Rising => self.run(pages, 1),
+            Order::Rising => self.run(pages, Every::new(1)),
             Order::Scattered | Order::Falling => {
-                self.run(pages, 16)?;
+                self.run(pages, Every::new(16))?;
                 self.rest(pages, order)
             }
         }
@@ -238,7 +259,7 @@ impl<'a> Filling<'a> {
     fn longer(&mut self, own: Parts, more: usize) -> Result<(), Refusal>
         requires { more ≤ 1024 }
     {
-        self.run(Pages::new(0, own.size(0), more), 1)
+        self.run(Pages::new(0, own.size(0), more), Every::new(1))
     }
 
     // Four more ranges and one more frame: range 1, of three pages or more, copied twice to record 17, and page 1 of the copy cut out by a write.
@@ -260,9 +281,12 @@ impl<'a> Filling<'a> {
     }
 }
 
+// ---- stores that are made so
+// By hand: each of these begins with a `Filling` and ends with its store. Over a closure that is lent it, the loops would stand in closures, which is no plainer.
+
 // Names 0 to 30.
 pub fn empty() -> Result<Store, Refusal> {
-    let mut s = calls::create(1024).map_err(|n| n.refusal)?;
+    let mut s = calls::create(1024)?;
     for object in 0..31 {
         s = calls::new_object(s, object)?;
     }
@@ -271,7 +295,7 @@ pub fn empty() -> Result<Store, Refusal> {
 
 // So many frames and ranges in use; the pages of each range added in the order named.
 pub fn filled(pool: &mut [u8], fill: Fill, order: Order) -> Result<Store, Refusal> {
-    let mut f = Filling::new(empty()?, pool);
+    let mut f = Filling::empty(pool)?;
     let own = fill.own();
     f.ranges(own, order)?;
     f.copied_ranges(own, fill.ranges.saturating_sub(own.ranges))?;
@@ -302,7 +326,7 @@ pub fn shared_by_many(
 ) -> Result<Store, Refusal>
     requires { (frames ≤ 1024) × (0 < cuts) × (cuts ≤ 255) × (cuts < frames) }
 {
-    let mut f = Filling::new(empty()?, pool);
+    let mut f = Filling::empty(pool)?;
     let n = frames - cuts;
     let whole = Pages::new(0, 0, n);
     f.range(whole, order)?;
@@ -324,8 +348,8 @@ fn scattered(k: usize) -> usize
 pub fn scattered_pieces(pool: &mut [u8], pieces: usize) -> Result<Store, Refusal>
     requires { pieces ≤ 512 }
 {
-    let mut f = Filling::new(empty()?, pool);
-    f.run(Pages::new(0, 0, 2 * pieces), 1)?;
+    let mut f = Filling::empty(pool)?;
+    f.run(Pages::new(0, 0, 2 * pieces), Every::new(1))?;
     for k in 0..pieces {
         f.copy(Pages::new(0, 2 * k, 1), 1, scattered(k))?;
     }
@@ -337,8 +361,8 @@ pub fn scattered_pieces(pool: &mut [u8], pieces: usize) -> Result<Store, Refusal
 pub fn long_and_short(pool: &mut [u8], pieces: usize) -> Result<Store, Refusal>
     requires { pieces ≤ 400 }
 {
-    let mut f = Filling::new(empty()?, pool);
-    f.run(Pages::new(0, 0, 8192), 16)?;
+    let mut f = Filling::empty(pool)?;
+    f.run(Pages::new(0, 0, 8192), Every::new(16))?;
     f.copy(Pages::new(0, 6400, 1792), 2, 0)?;
     for k in 0..pieces {
         f.copy(Pages::new(0, 16 * k, 1), 1, scattered(k))?;
@@ -351,7 +375,7 @@ pub fn long_and_short(pool: &mut [u8], pieces: usize) -> Result<Store, Refusal>
 pub fn overlapping(pool: &mut [u8], pieces: usize) -> Result<Store, Refusal>
     requires { pieces ≤ 500 }
 {
-    let mut f = Filling::new(empty()?, pool);
+    let mut f = Filling::empty(pool)?;
     f.range(Pages::new(0, 0, 1024), Order::Scattered)?;
     for k in 0..pieces {
         let from = Pages::new(0, k * 337 % 509, 512);
@@ -362,10 +386,10 @@ pub fn overlapping(pool: &mut [u8], pieces: usize) -> Result<Store, Refusal>
 
 // ---- records
 // Record 0: ranges that cover all those pages, of which each `every`th of a range and the last are present.
-pub fn record(pool: &mut [u8], parts: Parts, every: usize) -> Result<Store, Refusal>
-    requires { (parts.ranges ≤ 512) × (0 < every) }
+pub fn record(pool: &mut [u8], parts: Parts, every: Every) -> Result<Store, Refusal>
+    requires { parts.ranges ≤ 512 }
 {
-    let mut f = Filling::new(empty()?, pool);
+    let mut f = Filling::empty(pool)?;
     for j in 0..parts.ranges {
         f.run(parts.in_record(j), every)?;
     }
@@ -379,7 +403,7 @@ pub fn adjoining(s: Store, pool: &mut [u8], object: u32, parts: Parts) -> Result
     for i in (0..parts.ranges).rev() {
         let n = parts.size(i).min(at);
         at -= n;
-        f.run(Pages::new(object, at, n), 1)?;
+        f.run(Pages::new(object, at, n), Every::new(1))?;
     }
     Ok(f.store)
 }

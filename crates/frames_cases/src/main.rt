@@ -1,5 +1,5 @@
 // Runs the functions of `frames`, `places`, `page_steps` and `freeing` that work on frames, on edge values, and compares with answers written here by hand.
-// One line each: the case, and ok or WRONG.
+// One line each: the case, and ok or WRONG. What is asked here of numbers is what those functions ask, or that a table has such a place.
 #![tactic(auto)]
 
 ghost use Rattle.std.specs.Prelude.{◌≡◌, ◌<◌, ◌≤◌};
@@ -42,32 +42,47 @@ fn words(v: u64, i: usize, w: u64) -> [u64; 16]
     words
 }
 
-// Frame f alone in use, at this place.
-fn one(f: usize, p: Place) -> [Place; 1024]
+// A table with frame f at this place.
+fn with(mut t: [Place; 1024], f: usize, p: Place) -> [Place; 1024]
     requires { f < 1024 }
 {
-    let mut t = NOWHERE;
     t[f] = p;
     t
 }
 
-// Frames f and g at index 2 of backings 1 and b, and frame h at index 3 of backing 1.
-fn three(f: usize, g: usize, b: u32, h: usize) -> [Place; 1024]
-    requires { (f < 1024) × (g < 1024) × (h < 1024) }
-{
-    let mut t = one(f, SEAT);
-    t[g] = place(b, 2);
-    t[h] = place(1, 3);
-    t
+// Frames 63 and 64 at index 2 of backings 1 and b, and frame 1023 at index 3 of backing 1.
+fn three(b: u32) -> [Place; 1024] {
+    with(
+        with(with(NOWHERE, 63, SEAT), 64, place(b, 2)),
+        1023,
+        place(1, 3),
+    )
 }
 
-// A store of n frames that stand so.
-fn standing(places: [Place; 1024], n: usize) -> Store
-    ensures { result.frames ≡ n }
-{
-    Store {
-        places,
-        ..blank(n, &[])
+// So many frames, which stand so.
+#[derive(Clone, Copy)]
+struct Frames {
+    places: [Place; 1024],
+    count: usize,
+    ghost few: { count ≤ 1024 },
+}
+
+impl Frames {
+    fn new(places: [Place; 1024], count: usize) -> Frames
+        requires { count ≤ 1024 }
+    {
+        Frames { places, count }
+    }
+
+    // The store of these frames, and of no object.
+    fn store(self) -> Store
+        ensures { result.frames ≤ 1024 }
+    {
+        let places = self.places;
+        Store {
+            places,
+            ..blank(self.count, &[])
+        }
     }
 }
 
@@ -85,26 +100,20 @@ fn taken(name: &str, free: [u64; 16], f: usize, want: [u64; 16])
     report(name, s.free == want);
 }
 
-fn map_is(name: &str, t: [Place; 1024], n: usize, want: [u64; 16])
-    requires { n ≤ 1024 }
-{
-    let mut s = standing(t, n);
+fn map_is(name: &str, frames: Frames, want: [u64; 16]) {
+    let mut s = frames.store();
     freeing::renew(&mut s);
     report(name, s.free == want);
 }
 
-fn found(name: &str, t: [Place; 1024], n: usize, p: Place, want: Option<usize>)
-    requires { n ≤ 1024 }
-{
-    let s = standing(t, n);
+fn found(name: &str, frames: Frames, p: Place, want: Option<usize>) {
+    let s = frames.store();
     report(name, page_steps::frame_at(&s, p.backing, p.index) == want);
 }
 
 // The frames in use of a store whose one range, of object 0, has the first 1,024 indexes of backing 1 in its window.
-fn used(name: &str, t: [Place; 1024], n: usize, frames: usize)
-    requires { n ≤ 1024 }
-{
-    let mut s = standing(t, n);
+fn used(name: &str, standing: Frames, frames: usize) {
+    let mut s = standing.store();
     s.ranges[0] = range(0, 0, 1024, 0, BackingPages::Many(1));
     s.count = 1;
     s.live = 1;
@@ -112,10 +121,8 @@ fn used(name: &str, t: [Place; 1024], n: usize, frames: usize)
     report(name, calls::counts(s) == Ok(Numbers { frames, ranges: 1 }));
 }
 
-fn stands(name: &str, s: &Store, f: usize, want: Place)
-    requires { f < 1024 }
-{
-    report(name, s.places[f] == want);
+fn stands(name: &str, s: &Store, f: usize, want: Place) {
+    report(name, s.places.get(f) == Some(&want));
 }
 
 fn bit_cases() {
@@ -156,25 +163,35 @@ fn taken_cases() {
     taken("taken: frame 1023 of the empty map", empty, 1023, empty);
 }
 
+// So many frames, none of them in use.
+fn free(count: usize) -> Frames
+    requires { count ≤ 1024 }
+{
+    Frames::new(NOWHERE, count)
+}
+
 fn map_cases() {
-    let t = NOWHERE;
-    map_is("free map: no frame", t, 0, [0; 16]);
-    map_is("free map: one frame", t, 1, words(0, 0, 1));
-    map_is("free map: 63 frames", t, 63, words(0, 0, BUT_63));
-    map_is("free map: 64 frames", t, 64, words(0, 0, ALL));
-    map_is("free map: 1023 frames", t, 1023, words(ALL, 15, BUT_63));
-    map_is("free map: 1024 frames", t, 1024, [ALL; 16]);
+    map_is("free map: no frame", free(0), [0; 16]);
+    map_is("free map: one frame", free(1), words(0, 0, 1));
+    map_is("free map: 63 frames", free(63), words(0, 0, BUT_63));
+    map_is("free map: 64 frames", free(64), words(0, 0, ALL));
+    let but_last = words(ALL, 15, BUT_63);
+    map_is("free map: 1023 frames", free(1023), but_last);
+    map_is("free map: 1024 frames", free(1024), [ALL; 16]);
 }
 
 fn used_map_cases() {
-    let last = one(1023, place(1, 0));
+    let last = Frames::new(with(NOWHERE, 1023, place(1, 0)), 1024);
     let but_last = words(ALL, 15, BUT_63);
-    map_is("free map: frame 1023 in use", last, 1024, but_last);
-    let first = one(0, place(1, 0));
+    map_is("free map: frame 1023 in use", last, but_last);
+    let t = with(NOWHERE, 0, place(1, 0));
+    let first = Frames::new(t, 1024);
     let but_first = words(ALL, 0, BUT_0);
-    map_is("free map: frame 0 in use", first, 1024, but_first);
-    map_is("free map: the only frame in use", first, 1, [0; 16]);
-    map_is("free map: all frames in use", CROWDED, 1024, [0; 16]);
+    map_is("free map: frame 0 in use", first, but_first);
+    let only = Frames::new(t, 1);
+    map_is("free map: the only frame in use", only, [0; 16]);
+    let all = Frames::new(CROWDED, 1024);
+    map_is("free map: all frames in use", all, [0; 16]);
 }
 
 fn place_cases() {
@@ -186,67 +203,60 @@ fn place_cases() {
 }
 
 fn search_cases() {
-    let t = three(63, 64, 1, 1023);
+    let t = Frames::new(three(1), 1024);
     let (p, q) = (SEAT, place(1, 3));
-    found("frame at: the first of two", t, 1024, p, Some(63));
-    found("frame at: frame 1023", t, 1024, q, Some(1023));
-    found("frame at: another index", t, 1024, place(1, 4), None);
-    found("frame at: another backing", t, 1024, place(2, 2), None);
-    found("frame at: beyond the frames", t, 1023, q, None);
-    found("frame at: backing 0", t, 1024, place(0, 0), None);
-    let all = CROWDED;
-    found("frame at: all frames at one place", all, 1024, p, Some(0));
-    found("frame at: no frame", all, 0, p, None);
-    found("frame at: an empty table", NOWHERE, 1024, p, None);
+    found("frame at: the first of two", t, p, Some(63));
+    found("frame at: frame 1023", t, q, Some(1023));
+    found("frame at: another index", t, place(1, 4), None);
+    found("frame at: another backing", t, place(2, 2), None);
+    let fewer = Frames::new(three(1), 1023);
+    found("frame at: beyond the frames", fewer, q, None);
+    found("frame at: backing 0", t, place(0, 0), None);
+    let all = Frames::new(CROWDED, 1024);
+    found("frame at: all frames at one place", all, p, Some(0));
+    found("frame at: no frame", Frames::new(CROWDED, 0), p, None);
+    let empty = free(1024);
+    found("frame at: an empty table", empty, p, None);
 }
 
 // What stands at this place is released.
-fn released(t: [Place; 1024], n: usize, p: Place) -> Store
-    requires { n ≤ 1024 }
-    ensures { result.frames ≡ n }
+fn released(frames: Frames, p: Place) -> Store
+    ensures { result.frames ≤ 1024 }
 {
-    let mut s = standing(t, n);
+    let mut s = frames.store();
     page_steps::release(&mut s, p);
     s
 }
 
 fn released_cases() {
     let p = SEAT;
-    let s = released(three(63, 64, 2, 1023), 1024, p);
+    let s = released(Frames::new(three(2), 1024), p);
     stands("released: frame 63", &s, 63, FREE);
     stands("released: another backing stays", &s, 64, place(2, 2));
     stands("released: another index stays", &s, 1023, place(1, 3));
     let found = page_steps::frame_at(&s, 1, 2);
     report("released: none is found again", found.is_none());
-    let s = released(CROWDED, 1, p);
+    let s = released(Frames::new(CROWDED, 1), p);
     stands("released: one frame, frame 0", &s, 0, FREE);
     stands("released: one frame, frame 1 stays", &s, 1, p);
 }
 
 fn kept_cases() {
     let p = SEAT;
-    let s = released(one(5, p), 5, p);
+    let s = released(Frames::new(with(NOWHERE, 5, p), 5), p);
     stands("released: beyond the frames it stays", &s, 5, p);
     let q = place(0, 7);
-    let s = released(one(5, q), 1024, q);
+    let s = released(Frames::new(with(NOWHERE, 5, q), 1024), q);
     stands("released: backing 0 changes nothing", &s, 5, q);
 }
 
-// Every frame at one place, and then frame f elsewhere.
-fn placed(f: usize, p: Place) -> Store
-    requires { f < 1024 }
-{
-    let mut s = standing(CROWDED, 1024);
-    s.places[f] = p;
-    s
-}
-
+// Every frame at one place, and then one elsewhere.
 fn placed_cases() {
     let p = place(u32::MAX, u32::MAX);
-    let s = placed(1023, p);
+    let s = Frames::new(with(CROWDED, 1023, p), 1024).store();
     stands("placed: frame 1023", &s, 1023, p);
     stands("placed: frame 1022 stays", &s, 1022, SEAT);
-    let s = placed(0, FREE);
+    let s = Frames::new(with(CROWDED, 0, FREE), 1024).store();
     stands("placed: frame 0", &s, 0, FREE);
     stands("placed: frame 1 stays", &s, 1, SEAT);
 }
@@ -261,17 +271,25 @@ fn spread() -> [Place; 1024] {
 }
 
 fn used_cases() {
-    used("used: an empty table", NOWHERE, 1024, 0);
-    used("used: all frames", spread(), 1024, 1024);
-    used("used: one frame", one(0, place(1, 0)), 1, 1);
-    let mut t = one(63, SEAT);
+    used("used: an empty table", free(1024), 0);
+    used("used: all frames", Frames::new(spread(), 1024), 1024);
+    used(
+        "used: one frame",
+        Frames::new(with(NOWHERE, 0, place(1, 0)), 1),
+        1,
+    );
+    let mut t = with(NOWHERE, 63, SEAT);
     t[64] = place(1, 1023);
     t[1023] = place(1, 3);
-    used("used: three frames", t, 1024, 3);
-    used("used: one at index 0", one(0, place(1, 0)), 1024, 1);
+    used("used: three frames", Frames::new(t, 1024), 3);
+    used(
+        "used: one at index 0",
+        Frames::new(with(NOWHERE, 0, place(1, 0)), 1024),
+        1,
+    );
 }
 
-// The parts, one after another. By hand: a table of them would be one of function pointers.
+// The parts, one after another. By hand: a table of functions and a loop over it say no more than the calls.
 fn main() {
     bit_cases();
     highest_cases();

@@ -1,6 +1,6 @@
 -- Turns of the loops that decode and encode.
-use Rattle.std.specs.Prelude.{◌≡◌, refl, List, [], ◌∷◌, ◌++◌, ℕ, suc, ◌+◌, ◌*◌, ◌/◌, ◌%◌, ◌≤◌, ◌<◌, min, ltb, length, take, get_or, set, Option, None, Some}
-use Rattle.std.proofs.Common.{ap, ap₂, sym, ◌∙◌, append_assoc, append-nil, arith, add-one, length-set, take-suc, take-suc-set}
+use Rattle.std.specs.Prelude.{◌≡◌, refl, List, [], ◌∷◌, ◌++◌, ℕ, ◌+◌, ◌*◌, ◌/◌, ◌%◌, ◌≤◌, ◌<◌, min, ltb, length, take, get_or, Option, None, Some}
+use Rattle.std.proofs.Common.{ap, ap₂, sym, ◌∙◌, append_assoc, append-nil, arith, add-one, take-suc}
 use Rattle.std.specs.Option.{SomeIff, MatchOption, IsSomeAnd}
 use Rattle.std.specs.Char.{digit_value}
 use Rattle.std.proofs.lemmas.Bool.Decides.{nat_tests}
@@ -99,16 +99,11 @@ digits_append [] y = refl
 digits_append (b ∷ x) y = ap (λ z. digit_of (b / 16) ∷ digit_of (b % 16) ∷ z) (digits_append x y)
 
 -- one turn: two digits more
-pub encode_turn : (x d : List ℕ) (i u v : ℕ) → i < length x → 2 * i + 1 < length d → u ≡ digit_of (get_or x i 0 / 16) → v ≡ digit_of (get_or x i 0 % 16)
-    → take (2 * i) d ≡ digits_of (take i x) → take (2 * (i + 1)) (set (set d (2 * i) u) (2 * i + 1) v) ≡ digits_of (take (i + 1) x)
+pub encode_turn : (x d : List ℕ) (i u v : ℕ) → i < length x → u ≡ digit_of (get_or x i 0 / 16) → v ≡ digit_of (get_or x i 0 % 16) → d ≡ digits_of (take i x)
+    → (d ++ u ∷ []) ++ v ∷ [] ≡ digits_of (take (i + 1) x)
 unfolding digits_of
-encode_turn x d i u v h k p q e =
-    let a : 2 * (i + 1) ≡ suc (2 * i + 1) = omega arith in
-    let l : 2 * i + 1 < length (set d (2 * i) u) = simp length-set k in
-    ap (λ j. take j (set (set d (2 * i) u) (2 * i + 1) v)) a
-    ∙ take-suc-set (set d (2 * i) u) (2 * i + 1) v l
-    ∙ ap (λ z. z ++ v ∷ []) (ap (λ j. take j (set d (2 * i) u)) (add-one (2 * i)) ∙ take-suc-set d (2 * i) u (omega arith))
-    ∙ append_assoc (take (2 * i) d) (u ∷ []) (v ∷ [])
+encode_turn x d i u v h p q e =
+    append_assoc d (u ∷ []) (v ∷ [])
     ∙ ap₂ (λ y z. y ++ z) e (ap₂ (λ y z. y ∷ z ∷ []) p q)
     ∙ sym (digits_append (take i x) (get_or x i 0 ∷ []))
     ∙ ap digits_of (sym (ap (λ j. take j x) (add-one i) ∙ take-suc x i 0 h))

@@ -1,7 +1,7 @@
 // Hexadecimal: a line of digits to bytes, and bytes to a line of digits.
 #![tactic(auto)]
 
-ghost use Rattle.std.specs.Prelude.{◌≡◌, ◌*◌, ◌≤◌, ◌<◌, length, take, option_map, IfSome};
+ghost use Rattle.std.specs.Prelude.{◌≡◌, ◌*◌, ◌≤◌, ◌<◌, length, option_map, IfSome};
 ghost use Rattle.hexadecimal.specs.Hex.{value_of, bytes_of, digit_of, digits_of};
 
 use arrayvec::ArrayVec;
@@ -29,7 +29,7 @@ pub fn decode(line: &[u8]) -> Option<ArrayVec<u8, 256>>
     Some(bytes)
 }
 
-// The capital digit of a value.
+// The capital digit of a value. By hand: std's `from_digit` gives small letters, and to raise them and cast back is no shorter.
 fn digit(v: u8) -> u8
     requires { v < 16 }
     ensures { result ≡ digit_of v }
@@ -37,13 +37,15 @@ fn digit(v: u8) -> u8
     if v < 10 { b'0' + v } else { b'A' + (v - 10) }
 }
 
-// The digits of bytes.
-pub fn encode(bytes: &[u8], digits: &mut [u8])
-    requires { 2 * length bytes.now ≤ length digits.old }
-    ensures { take (2 * length bytes.now) digits.new ≡ digits_of bytes.now }
+// The digits of bytes, in a buffer as large as the caller needs.
+pub fn encode<const N: usize>(bytes: &[u8]) -> ArrayVec<u8, N>
+    requires { 2 * length bytes.now ≤ N }
+    ensures { result.items ≡ digits_of bytes.now }
 {
-    for (i, b) in bytes.iter().enumerate() {
-        digits[2 * i] = digit(b / 16);
-        digits[2 * i + 1] = digit(b % 16);
+    let mut digits = ArrayVec::new();
+    for b in bytes {
+        digits.push(digit(b / 16));
+        digits.push(digit(b % 16));
     }
+    digits
 }

@@ -63,7 +63,8 @@ pub fn read_pages(pages: &Pages, pool: &[u8], object: u32, offset: usize, buf: &
 }
 
 // A part of src written to its page where that is present and private: the store stays. Else nothing is written, and the answer is None. Where it is
-// written, the answer is a slot to begin at when the next page is looked for, as this one is looked for from the slot `hint` on.
+// written, the answer is a slot to begin at when the next page is looked for, as this one is looked for from the slot `hint` on. By hand, here and below: a struct of states
+// and pool would be lent `&mut` where only the pool changes.
 fn overwrite_part(
     states: &States,
     pool: &mut [u8],
@@ -117,7 +118,7 @@ fn move_part<F: Fn(u32, u32) -> Option<usize>>(
     frame_of: F,
 ) -> usize
     requires table { (Table s.now.ranges s.now.count) × (s.now.frames ≤ 1024) × (length pool.old ≡ s.now.frames * 4096) }
-    requires g_bound { (g < 1000000000000000000) × (k + n ≤ 4096) × (at + n ≤ length pool.old) }
+    requires n_bound { (k + n ≤ 4096) × (at + n ≤ length pool.old) }
     requires callable { F.IsAlwaysCallable frame_of }
     requires finds { Finds s.now (F.post frame_of) }
     ensures { pool.new ≡ paste pool.old at (drop k (page_bytes s.now pool.old g)) n }

@@ -2,11 +2,12 @@
 #![tactic(auto)]
 
 use access_samples::{
-    add_refused, adds, extent, frames, fresh, high, leaves, puts, small, turned, write_refused,
+    add_refused, adds, extent, frames, fresh, high, leaves, puts, small, turned, twice_full,
+    write_refused,
 };
 use places::Place;
 use refusals::Refusal;
-use samples::{FREE, many, place, report, single, store};
+use samples::{FREE, many, place, ranged, report, seated, single, store};
 use store::Store;
 
 // A store of one frame, name 0 live; and page 0 of object 0 in it.
@@ -76,7 +77,7 @@ fn no_frame() {
     );
 }
 
-// Of object 0, page 0 in frame 4, page 1 absent, page 2 shared and in frame 3, page 3 not covered. By hand: a store of a case is told by
+// Of object 0, page 0 in frame 4, page 1 absent, page 2 shared and in frame 3, page 3 not covered. By hand: the store of a case is told by
 // a table of its own.
 fn mixed() -> Store {
     let a = [
@@ -89,14 +90,8 @@ fn mixed() -> Store {
 
 // The same with frame 2 in use elsewhere.
 fn mixed_less() -> Store {
-    let a = [
-        many(0, 0, 2, 0, 1),
-        single(0, 2, 1, 0, 2),
-        single(1, 2, 1, 0, 2),
-        single(1, 9, 1, 0, 3),
-    ];
-    let p = [FREE, FREE, place(3, 0), place(2, 0), place(1, 0)];
-    small(3, &a, &p, 3)
+    let s = ranged(mixed(), 3, single(1, 9, 1, 0, 3));
+    seated(s, 2, place(3, 0), 3)
 }
 
 // From the last byte of page 0 to the first of page 3.
@@ -145,16 +140,10 @@ fn two_frames() {
 
 // Pages 0 and 1 of object 0 are the same page, in frame 4, and frame 3 alone is free.
 fn gross() {
-    let a = [
-        single(0, 0, 1, 0, 1),
-        single(0, 1, 1, 0, 1),
-        many(0, 100, 3, 0, 2),
-    ];
-    let p = [place(2, 0), place(2, 1), place(2, 2), FREE, place(1, 0)];
     report(
         "8: two pages count that would take one frame",
         write_refused(
-            small(1, &a, &p, 8),
+            twice_full(1, 0),
             20480,
             extent(0, 4095, 2),
             Refusal::NoFrame,
@@ -162,7 +151,7 @@ fn gross() {
     );
 }
 
-// The parts, one after another. By hand: a table of them would be one of function pointers.
+// The parts, one after another. By hand: a table of functions and a loop over it say no more than the calls.
 fn main() {
     one_frame_taken();
     one_frame_kept();

@@ -1,7 +1,7 @@
 // Runs add, read and write where they are refused, and where the last slot is taken. Answers are written by hand from document 01. One line a case.
 #![tactic(auto)]
 
-ghost use Rattle.std.specs.Prelude.{◌<◌, ◌≤◌, length};
+ghost use Rattle.std.specs.Prelude.{◌≤◌};
 
 use access_samples::{
     add_refused, adds, extent, five, frames, fresh, gets, halves, high, paged, puts, puts_nothing,
@@ -9,23 +9,20 @@ use access_samples::{
 };
 use places::Place;
 use refusals::{Extent, Refusal};
-use samples::{FREE, full, many, place, report, single};
+use samples::{FREE, full, many, place, ranged, report, seated, single};
+use std::array;
 use store::Store;
 use table::PageRange;
 
 // ---- the table of refusals: a page and some bytes, in a pool of which n bytes are lent
-fn all_refused(name: &str, s: Store, n: usize, page: usize, bytes: Extent, why: Refusal)
-    requires { (n ≤ 24576) × (bytes.n ≤ 20480) }
-{
+fn all_refused(name: &str, s: Store, n: usize, page: usize, bytes: Extent, why: Refusal) {
     let added = add_refused(s, n, bytes.object, page, why);
     let read = read_refused(s, n, bytes, why);
     report(name, added && read && write_refused(s, n, bytes, why));
 }
 
 // Page 0 of an object and its first byte.
-fn refused(name: &str, s: Store, n: usize, object: u32, why: Refusal)
-    requires { n ≤ 24576 }
-{
+fn refused(name: &str, s: Store, n: usize, object: u32, why: Refusal) {
     all_refused(name, s, n, 0, extent(object, 0, 1), why);
 }
 
@@ -79,16 +76,12 @@ fn table_end() {
 // ---- the last slot
 // Page 0 and every 32nd page after it, each a range and a backing of its own.
 fn far_table() -> [PageRange; 512] {
-    let mut a = [PageRange::ZERO; 512];
-    for k in 0..512 {
-        a[k] = many(0, k * 32, 1, 0, k as u32 + 1);
-    }
-    a
+    array::from_fn(|k| many(0, k * 32, 1, 0, k as u32 + 1))
 }
 
 // The first ranges of it, and these places.
 fn far(count: usize, places: &[Place], w: u64) -> Store
-    requires { (count ≤ 512) × (length places.now ≤ 1024) }
+    requires { count ≤ 512 }
 {
     small(1, &far_table()[..count], places, w)
 }
@@ -100,16 +93,6 @@ fn slots(count: usize) -> Store
     far(count, &high(FREE, place(1, 0)), 15)
 }
 
-// With another range in a slot of it, or in the next one, and other frames.
-fn changed(count: usize, i: usize, r: PageRange, places: &[Place], w: u64) -> Store
-    requires { (count ≤ 512) × (i < 512) × (length places.now ≤ 1024) }
-{
-    let mut s = far(count, places, w);
-    s.ranges[i] = r;
-    s.count = count.max(i + 1);
-    s
-}
-
 fn two_slots() {
     let s = slots(510);
     let p = high(place(600, 0), place(1, 0));
@@ -119,7 +102,7 @@ fn two_slots() {
         0,
         16305,
         3,
-        changed(510, 510, single(0, 16305, 1, 0, 600), &p, 7),
+        ranged(far(510, &p, 7), 510, single(0, 16305, 1, 0, 600)),
     );
     let q = high(place(510, 16), place(1, 0));
     adds(
@@ -128,7 +111,7 @@ fn two_slots() {
         0,
         16304,
         3,
-        changed(510, 509, many(0, 16288, 17, 0, 510), &q, 7),
+        ranged(far(510, &q, 7), 509, many(0, 16288, 17, 0, 510)),
     );
     let t = far(510, &high(place(1, 0), FREE), 23);
     adds("510 ranges: a page is replaced", s, 0, 0, 3, t);
@@ -136,22 +119,16 @@ fn two_slots() {
 
 // 510 ranges, of which slots 508 and 509 hold three pages each of one backing.
 fn wide() -> Store {
-    let mut s = slots(510);
-    s.ranges[508] = many(0, 16256, 3, 0, 600);
-    s.ranges[509] = many(0, 16288, 3, 0, 600);
-    s
+    let s = ranged(slots(510), 508, many(0, 16256, 3, 0, 600));
+    ranged(s, 509, many(0, 16288, 3, 0, 600))
 }
 
 // Page 16289 cut out of the last one.
 fn wide_cut() -> Store {
-    let mut s = wide();
-    s.count = 512;
-    s.ranges[509] = many(0, 16288, 1, 0, 600);
-    s.ranges[510] = single(0, 16289, 1, 0, 601);
-    s.ranges[511] = many(0, 16290, 1, 2, 600);
-    s.places[3] = place(601, 0);
-    s.free[0] = 7;
-    s
+    let s = ranged(wide(), 509, many(0, 16288, 1, 0, 600));
+    let s = ranged(s, 510, single(0, 16289, 1, 0, 601));
+    let s = ranged(s, 511, many(0, 16290, 1, 2, 600));
+    seated(s, 3, place(601, 0), 7)
 }
 
 fn both_slots() {
@@ -226,7 +203,7 @@ fn full_nothing() {
 // The last byte of a page and the first of the next.
 fn four_slots() {
     let p = [FREE, FREE, place(600, 1), place(600, 0), place(1, 0)];
-    let t = changed(508, 508, many(0, 262000, 2, 0, 600), &p, 3);
+    let t = ranged(far(508, &p, 3), 508, many(0, 262000, 2, 0, 600));
     let mut want = frames(&[1, 2, 0, 0, 5]);
     want[8192] = b'y';
     want[16383] = b'x';
@@ -246,7 +223,7 @@ fn four_slots() {
     );
 }
 
-// The parts, one after another. By hand: a table of them would be one of function pointers.
+// The parts, one after another. By hand: a table of functions and a loop over it say no more than the calls.
 fn main() {
     table_spoiled();
     table_pool();

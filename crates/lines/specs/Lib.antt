@@ -1,3 +1,4 @@
 pub mod Parse
 pub mod Did
+pub mod Buffers
 pub mod Examples

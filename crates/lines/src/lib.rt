@@ -1,7 +1,7 @@
 // ONE LINE OF THE LINE PROGRAM: the call that it asks for is made, and its answer is put into digits. Any store, any pool and any line.
 #![tactic(auto)]
 
-ghost use Rattle.std.specs.Prelude.{◌≤◌};
+ghost use Rattle.std.specs.Prelude.{◌≡◌, ◌++◌, ◌≤◌, take};
 ghost use Rattle.arrayvec.specs.ArrayVec.{array_vec_len};
 ghost use Rattle.replies.specs.Line.{parse};
 ghost use Rattle.replies.specs.Replies.{Replied};
@@ -32,9 +32,13 @@ pub fn answer(s: &mut Store, pool: &mut [u8], line: &[u8]) -> ArrayVec<u8, 512>
     ensures bound { array_vec_len result ≤ 512 }
     ensures did { LineDid line.now s.old pool.old result.items s.new pool.new }
 {
-    let reply = replied(s, pool, line);
-    let mut digits = ArrayVec::from([0; 512]);
-    digits.truncate(2 * reply.len());
-    hexadecimal::encode(&reply, &mut digits);
-    digits
+    hexadecimal::encode(&replied(s, pool, line))
+}
+
+// The bytes of `part` behind those that are held of a line, as many as there is room for.
+pub fn hold<const N: usize>(held: &mut ArrayVec<u8, N>, part: &[u8])
+    ensures { held.new.items ≡ take N (held.old.items ++ part.now) }
+{
+    let n = held.remaining_capacity().min(part.len());
+    held.try_extend_from_slice(&part[..n]).unwrap();
 }

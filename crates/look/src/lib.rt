@@ -1,4 +1,4 @@
-// Where a page of an object is: the slot of the range that covers it, and its frame.
+// What a look-up answers: the backing and the frame of a page that is present, and a page's state.
 #![tactic(auto)]
 
 ghost use Rattle.std.specs.Prelude.{◌≡◌, ◌≤◌, ◌<◌};

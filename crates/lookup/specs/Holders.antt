@@ -4,7 +4,7 @@ use Rattle.std.specs.Prelude.{refl, Bool, true, false, ℕ, zero, suc, ◌+◌, 
 use Rattle.std.proofs.Common.{sym, ◌∙◌, le_refl, add-one, arith, eq-eqb, le-ltb, lt-ltb}
 use Rattle.std.proofs.lemmas.Bool.{false≢true}
 use Rattle.std.proofs.lemmas.List.{length-take, take_min}
-use mathlib.Core.List.{List}
+use mathlib.Core.List.{List, [], ◌∷◌}
 use Rattle.table.specs.declared.PageRange.{PageRange}
 use Rattle.look.specs.declared.Located.{Located}
 use Rattle.look.specs.declared.State.TheVariants as state
@@ -21,6 +21,7 @@ use Rattle.places.specs.Found.{frame_found}
 use Rattle.look.specs.Look.{index_in, in_frame, in_found, located, shared_in}
 use Rattle.chains.specs.Chains.{in_chain, last_same}
 use Rattle.chains.specs.Walk.{Along, along_at, along_less, along_next, along_same}
+use Rattle.chains.specs.Entries.{entries, entries_first, entries_over}
 use Rattle.charts.specs.Charts.{RangeChains, backing_at, chain_by}
 
 -- the walk along the chain of backing b, of the first n of the ranges, is at link k, with a holder met or none yet
@@ -112,13 +113,66 @@ module _ (rs : List PageRange) (n : ℕ) (c : Chains) (b : ℕ) where
       few true = omega arith
       few false = omega arith
 
--- what that says of the store
-module _ (s : Store) (c : Chains) (b : ℕ) (m : Bool) (k : ℕ) (M : Meets s.ranges s.count c b m k) where
-  pub meets_shared : 0 < k → k ≤ length s.ranges → backing_at s.ranges (k - 1) ≡ b → m ≡ true → state.Shared ≡ shared_in s b
-  meets_shared u l q i = rw (lt-ltb 1 (holders b (ranges_of (used s))) (meets_two s.ranges s.count c b m k M u l q i))
+-- the same with the entries `rest` before the walk
+pub record MeetsLeft (rs : List PageRange) (n : ℕ) (c : Chains) (b : ℕ) (met : Bool) (rest : List ℕ) : Type 0 where
+  pub link : ℕ
+  pub meets : Meets rs n c b met link
+  pub few : n ≤ 1024
+  pub is : rest ≡ entries c.next link
 
-  pub meets_private : k ≡ 0 → state.Private ≡ shared_in s b
-  meets_private z = rw (le-ltb 1 (holders b (ranges_of (used s))) (meets_end s.ranges s.count c b m k M z))
+module _ (rs : List PageRange) (n : ℕ) (c : Chains) (b : ℕ) where
+  pub left_none : RangeChains rs n c → n ≤ 1024 → (s : List ℕ) → s ≡ entries c.next (get_or c.heads (b % 1024) 0) → MeetsLeft rs n c b false s
+  left_none C l s e = record { link = get_or c.heads (b % 1024) 0; meets = meets_none rs n c b C; few = l; is = e }
+
+  module _ (m : Bool) (i : ℕ) (rest : List ℕ) (M : MeetsLeft rs n c b m (i ∷ rest)) where
+    first : (M.link ≡ i + 1) × (rest ≡ entries c.next (min (get_or c.next i 0) i))
+    first = entries_first c.next i rest M.link M.is (let l = M.meets.along.low in let f = M.few in omega arith)
+
+    past : (k : ℕ) → k ≡ i + 1 → k - 1 ≡ i
+    past k e = omega arith
+
+    lower : min (get_or c.next i 0) i ≡ get_or c.next i 0
+    lower =
+        let h = first.0 in
+        let l : get_or c.next i 0 < M.link = rw (past M.link h) at (meets_less rs n c b m M.link M.meets (omega arith)) in
+        omega arith
+
+    pub left_low : i < n
+    left_low = let l = M.meets.along.low in let h = first.0 in omega arith
+
+    pub left_miss : (backing_at rs i ≡ b → ⊥) → MeetsLeft rs n c b m rest
+    left_miss q =
+        let h = first.0 in
+        record {
+          link = get_or c.next i 0;
+          meets = rw (past M.link h) at (meets_miss rs n c b m M.link M.meets (omega arith) (rw (past M.link h) q));
+          few = M.few;
+          is = rw lower at first.1;
+        }
+
+    pub left_one : i < length rs → backing_at rs i ≡ b → m ≡ false → MeetsLeft rs n c b true rest
+    left_one l q z =
+        let h = first.0 in
+        record {
+          link = get_or c.next i 0;
+          meets = rw (past M.link h) at (meets_one rs n c b m M.link M.meets (omega arith) (omega arith) (rw (past M.link h) q) z);
+          few = M.few;
+          is = rw lower at first.1;
+        }
+
+    pub left_two : i < length rs → backing_at rs i ≡ b → m ≡ true → 1 < holders b (left rs n 0)
+    left_two l q z = let h = first.0 in meets_two rs n c b m M.link M.meets (omega arith) (omega arith) (rw (past M.link h) q) z
+
+  pub left_few : (m : Bool) → MeetsLeft rs n c b m [] → holders b (left rs n 0) ≤ 1
+  left_few m M = meets_end rs n c b m M.link M.meets (entries_over c.next M.link M.is (let l = M.meets.along.low in let f = M.few in omega arith))
+
+-- what that says of the store
+module _ (s : Store) (b : ℕ) where
+  pub holders_shared : 1 < holders b (left s.ranges s.count 0) → state.Shared ≡ shared_in s b
+  holders_shared h = rw (lt-ltb 1 (holders b (ranges_of (used s))) h)
+
+  pub holders_private : holders b (left s.ranges s.count 0) ≤ 1 → state.Private ≡ shared_in s b
+  holders_private h = rw (le-ltb 1 (holders b (ranges_of (used s))) h)
 
 -- a page that is present has a backing with a number, and a frame of the store
 module _ (s : Store) (g : ℕ) (l : Located) where

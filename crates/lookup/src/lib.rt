@@ -1,4 +1,6 @@
 // WHERE A PAGE OF AN OBJECT IS: the slot of the range that covers it, its frame, and whether it is shared, by the charts of the store.
+// By hand: three functions ask `Table s.ranges s.count` of the store that they are lent, for the reason that range_table gives; and three methods take a page `g` and a slot
+// `hint` to begin at, of which a caller keeps the slot from one page to the next.
 #![tactic(auto)]
 
 ghost use Rattle.std.specs.Prelude.{◌≡◌, true, ◌≤◌, ◌<◌, take, Some, IfSome};
@@ -23,19 +25,16 @@ pub fn lengths(s: &Store)
     let _word = s.free[0];
 }
 
-// The frame that stands at this backing and index: a walk along the chain of that place.
+// The frame that stands at this backing and index: a walk along the chain of that place. By hand, as `sharing` is: a closure calls it, and of one that has `self` the check finds
+// no contract.
 pub fn frame_of(s: &Store, charts: &Charts, backing: u32, index: u32) -> Option<usize>
     requires { (FrameChains s.now.places s.now.frames charts.now.frames) × (s.now.frames ≤ 1024) × Lone s.now }
     ensures { result ≡ frame_at backing index 0 (take s.now.frames s.now.places) }
 {
-    // by hand: a chain is of indices, since memory is fixed
-    let mut link = charts.frames.heads[chain_to(backing, index)] as usize;
-    while 0 < link {
-        let frame = link - 1;
+    for frame in charts.frames.chain(chain_to(backing, index)) {
         if s.places[frame].stands_at(backing, index) {
             return Some(frame);
         }
-        link = charts.frames.next[frame] as usize;
     }
     None
 }
@@ -62,12 +61,14 @@ fn covers(s: &Store, slot: usize, g: usize) -> bool
     requires { Table s.now.ranges s.now.count }
     ensures { result ≡ true → Some slot ≡ covering_at g (ranged_of (used s.now)) }
 {
-    slot < s.count && s.ranges[slot].first() <= g && g < s.ranges[slot].end()
+    s.used()
+        .get(slot)
+        .is_some_and(|r| r.first() <= g && g < r.end())
 }
 
 // The slot of the range that covers page g of the line: the slot `hint`, or the one behind it, or what halving finds.
 fn slot_near(s: &Store, g: usize, hint: usize) -> Option<usize>
-    requires { (Table s.now.ranges s.now.count) × (g < 1000000000000000000) }
+    requires { Table s.now.ranges s.now.count }
     ensures { result ≡ covering_at g (ranged_of (used s.now)) }
 {
     if covers(s, hint, g) {
@@ -86,6 +87,19 @@ pub struct Near<T> {
     pub found: T,
 }
 
+impl<T> Near<T> {
+    // The same slot, with what `f` makes of what is found.
+    fn map<U, F: FnOnce(T) -> U>(self, f: F) -> Near<U>
+        requires { F.pre f self.found }
+        ensures { F.post f self.found result.found }
+    {
+        Near {
+            slot: self.slot,
+            found: f(self.found),
+        }
+    }
+}
+
 // Page g of the line, looked for from the slot `hint` on, where `frame_of` finds the frame that stands at a backing and index.
 pub fn locate_by<F: FnOnce(u32, u32) -> Option<usize>>(
     s: &Store,
@@ -93,7 +107,7 @@ pub fn locate_by<F: FnOnce(u32, u32) -> Option<usize>>(
     hint: usize,
     frame_of: F,
 ) -> Near<Option<Located>>
-    requires table { (Table s.now.ranges s.now.count) × (g < 1000000000000000000) }
+    requires table { Table s.now.ranges s.now.count }
     requires callable { F.IsAlwaysCallable frame_of }
     requires finds { Finds s.now (F.post frame_of) }
     ensures found { result.found ≡ located s.now g }
@@ -122,7 +136,6 @@ pub struct Pages<'a> {
 impl Pages<'_> {
     // Page g of the line, looked for from the slot `hint` on.
     pub fn locate_near(&self, g: usize, hint: usize) -> Near<Option<Located>>
-        requires { g < 1000000000000000000 }
         ensures found { result.found ≡ located self.now.store.now g }
         ensures inside { IfSome result.found (λ l. l.frame < self.now.store.now.frames) }
     {
@@ -136,7 +149,6 @@ impl Pages<'_> {
 
     // Page g of the line.
     pub fn locate(&self, g: usize) -> Option<Located>
-        requires { g < 1000000000000000000 }
         ensures found { result ≡ located self.now.store.now g }
         ensures inside { IfSome result (λ l. l.frame < self.now.store.now.frames) }
     {
@@ -151,80 +163,51 @@ pub struct States<'a> {
     pub ghost held: { RangeChains pages.store.now.ranges pages.store.now.count pages.charts.now.ranges },
 }
 
-impl States<'_> {
-    // "A backing held by two or more ranges is shared.": a walk along the chain of the backing, until two are met.
-    fn sharing(&self, backing: u32) -> State
-        ensures { result ≡ shared_in self.now.pages.store.now backing }
-    {
-        let Pages { store, charts } = self.pages;
-        let mut met = false;
-        let mut next = charts.ranges.heads[chain_by(backing)] as usize;
-        // by hand: a chain is of indices, since memory is fixed
-        while 0 < next {
-            let slot = next - 1;
-            if store.ranges[slot].backing.number() == backing {
-                if met {
-                    return State::Shared;
-                }
-                met = true;
+// "A backing held by two or more ranges is shared.": a walk along the chain of the backing, until two are met.
+fn sharing(store: &Store, charts: &Charts, backing: u32) -> State
+    requires { (RangeChains store.now.ranges store.now.count charts.now.ranges) × (store.now.count ≤ 512) }
+    ensures { result ≡ shared_in store.now backing }
+{
+    let mut met = false;
+    for slot in charts.ranges.chain(chain_by(backing)) {
+        if store.ranges[slot].backing.number() == backing {
+            if met {
+                return State::Shared;
             }
-            next = charts.ranges.next[slot] as usize;
-        }
-        State::Private
-    }
-
-    // The state of a page that was found.
-    fn state_at(&self, page: Option<Located>) -> State
-        ensures { result ≡ seen self.now.pages.store.now page }
-    {
-        match page {
-            None => State::Absent,
-            Some(located) => self.sharing(located.backing),
+            met = true;
         }
     }
+    State::Private
+}
 
-    // The state of page g of the line, looked for from the slot `hint` on. By hand, as `private_near` is: of a closure that has `self` the check finds no contract.
+impl States<'_> {
+    // The state of page g of the line, looked for from the slot `hint` on.
     pub fn near(&self, g: usize, hint: usize) -> Near<State>
-        requires { g < 1000000000000000000 }
         ensures { result.found ≡ seen self.now.pages.store.now (located self.now.pages.store.now g) }
     {
-        let Near { slot, found } = self.pages.locate_near(g, hint);
-        Near {
-            slot,
-            found: self.state_at(found),
-        }
+        let Pages { store, charts } = self.pages;
+        self.pages.locate_near(g, hint).map(|page| page.map_or(
+            State::Absent,
+            |l| sharing(store, charts, l.backing),
+        ))
     }
 
     // The state of page g of the line.
     pub fn of(&self, g: usize) -> State
-        requires { g < 1000000000000000000 }
         ensures { result ≡ seen self.now.pages.store.now (located self.now.pages.store.now g) }
     {
         self.near(g, 0).found
     }
 
-    // The frame of a page that was found, if it is present and private.
-    fn private_at(&self, page: Option<Located>) -> Option<usize>
-        ensures found { result ≡ private_in self.now.pages.store.now page }
-        ensures same { IfSome result (λ f. IfSome page (λ l. f ≡ l.frame)) }
-    {
-        let located = page?;
-        match self.sharing(located.backing) {
-            State::Private => Some(located.frame),
-            State::Absent | State::Shared => None,
-        }
-    }
-
     // The frame of page g of the line, if it is present and private, looked for from the slot `hint` on.
     pub fn private_near(&self, g: usize, hint: usize) -> Near<Option<usize>>
-        requires { g < 1000000000000000000 }
         ensures found { result.found ≡ private_in self.now.pages.store.now (located self.now.pages.store.now g) }
         ensures inside { IfSome result.found (λ f. f < self.now.pages.store.now.frames) }
     {
-        let Near { slot, found } = self.pages.locate_near(g, hint);
-        Near {
-            slot,
-            found: self.private_at(found),
-        }
+        let Pages { store, charts } = self.pages;
+        self.pages.locate_near(g, hint).map(|page| {
+            page.filter(|l| sharing(store, charts, l.backing) == State::Private)
+                .map(|l| l.frame)
+        })
     }
 }

@@ -86,7 +86,7 @@ impl PageNumber {
         PageNumber(self.0 + n)
     }
 
-    // How many pages lie from an earlier page up to this one.
+    // How many pages lie from an earlier page up to this one. For a caller of the crate: the store tells a range by its first page and its length.
     pub fn minus(self, earlier: PageNumber) -> usize
         requires { earlier.0 ≤ self.0 }
         ensures { result ≡ self.0 - earlier.0 }

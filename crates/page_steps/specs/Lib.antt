@@ -1,2 +1,3 @@
 pub mod Depart
+pub mod Lent
 pub mod Step

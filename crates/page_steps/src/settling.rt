@@ -1,6 +1,6 @@
 // THE PAGE STEP: a range put into the table for a page, what leaves with it, and a frame that gets the page.
 
-ghost use Rattle.std.specs.Prelude.{◌≡◌, ◌+◌, ◌≤◌, ◌<◌, take};
+ghost use Rattle.std.specs.Prelude.{◌≡◌, ◌+◌, ◌≤◌, ◌<◌, take, IfSome};
 ghost use Rattle.ranges.specs.Range.{slot_at};
 ghost use Rattle.frames.specs.Free.{highest_below};
 ghost use Rattle.table.specs.Table.{ranges_of, Table};
@@ -13,21 +13,20 @@ ghost use Rattle.pages.specs.Leaving.{Gentle};
 ghost use Rattle.pages.specs.Settling.{Lodged, Placed};
 ghost use Rattle.page_steps.specs.Depart.{departed, gone_at, old_slot, Taken};
 
+use crate::PageAddress;
 use frames::top_bit;
 use look::index_in;
-use page::PageNumber;
 use pages::Spot;
 use places::Place;
 use range_table::{covering, has_window, put_range};
 use store::Store;
-use table::line_of;
 
 // The first frame that stands at this backing and index.
 pub fn frame_at(s: &Store, backing: u32, index: u32) -> Option<usize>
-    requires { s.now.frames ≤ 1024 }
-    ensures { result ≡ frame_at backing index 0 (take s.now.frames s.now.places) }
+    ensures frame { result ≡ frame_at backing index 0 (take s.now.frames s.now.places) }
+    ensures inside { IfSome result (λ f. f < 1024) }
 {
-    s.places[..s.frames]
+    s.frame_places()
         .iter()
         .position(|p| p.stands_at(backing, index))
 }
@@ -36,18 +35,13 @@ pub fn frame_at(s: &Store, backing: u32, index: u32) -> Option<usize>
 pub fn next_frame(s: &Store) -> Option<usize>
     ensures { result ≡ highest_below s.now.free 1024 }
 {
-    for i in (0..16).rev() {
-        let w = s.free[i];
-        if 0 < w {
-            return Some(i * 64 + top_bit(w));
-        }
-    }
-    None
+    let i = s.free.iter().rposition(|w| 0 < *w)?;
+    Some(i * 64 + top_bit(s.free[i]))
 }
 
 // The place of a page in the page vectors before a step, present or not; none where no range covers it.
 fn old_place(s: &Store, g: usize) -> Option<Place>
-    requires { (Table s.now.ranges s.now.count) × (g < 1000000000000000000) }
+    requires { Table s.now.ranges s.now.count }
     ensures { slot_at g (ranges_of (used s.now)) ≡ old_slot result }
 {
     let k = covering(s, g)?;
@@ -60,7 +54,6 @@ fn old_place(s: &Store, g: usize) -> Option<Place>
 
 // The frame at a place, if there is one, stands nowhere.
 pub fn release(s: &mut Store, p: Place)
-    requires { s.old.frames ≤ 1024 }
     ensures { s.new ≡ with_places (gone_at s.old p) s.old }
 {
     if let Some(f) = frame_at(s, p.backing, p.index) {
@@ -70,7 +63,6 @@ pub fn release(s: &mut Store, p: Place)
 
 // "Entries in no holder's window go at once": of a page's old place, where the page now is at `place`. If that is the same place, what stood there goes.
 fn depart(s: &mut Store, old: Option<Place>, place: Place)
-    requires { (s.old.frames ≤ 1024) × (s.old.count ≤ 512) }
     ensures { s.new ≡ with_places (departed s.old place.backing place.index old) s.old }
 {
     if let Some(p) = old {
@@ -89,12 +81,12 @@ pub fn take_frame(s: &mut Store, f: usize)
 }
 
 // THE PAGE STEP of the table, the places and the free words: the range of the spot is put into the table, what leaves has left, and frame f has the page.
-pub fn settle(s: &mut Store, object: u32, page: PageNumber, q: Spot, f: usize)
-    requires lodged { (Inside s.old (zeros s.old)) × (page.0 < 262144) × (Lodged s.old object page.0 q) × (Gentle s.old object page.0 q) }
+pub fn settle(s: &mut Store, address: PageAddress, q: Spot, f: usize)
+    requires lodged { (Inside s.old (zeros s.old)) × (Lodged s.old address.object address.page.0 q) × (Gentle s.old address.object address.page.0 q) }
     requires room { (s.old.count + 2 ≤ 512) × (f < 1024) }
     ensures { Placed s.old q f s.new }
 {
-    let old = old_place(s, line_of(object, page));
+    let old = old_place(s, address.line());
     let place = Place {
         backing: q.range.backing.number(),
         index: q.index,

@@ -7,22 +7,21 @@ ghost use Rattle.table.specs.Table.{ranged, range_of, ranges_of, Small, Table};
 ghost use Rattle.store.specs.Abs.{used};
 ghost use Rattle.pages.specs.Spot.{own_spot, longer_spot, spot_in, spot_of};
 
+use crate::PageAddress;
 use look::index_in;
-use page::PageNumber;
 use pages::Spot;
-use range_table::{fresh_number, holder_count, starts_before};
+use range_table::{fresh_number, holder_count, last_by};
 use store::Store;
-use table::{BackingPages, PageRange, line_of};
+use table::{BackingPages, PageRange};
 
 // A range of its own, with a new backing.
-pub fn own_spot(s: &Store, object: u32, page: PageNumber) -> Spot
-    requires { s.now.count ≤ 512 }
-    ensures { result ≡ own_spot s.now object page.0 }
+pub fn own_spot(s: &Store, address: PageAddress) -> Spot
+    ensures { result ≡ own_spot s.now address.object address.page.0 }
 {
     Spot {
         range: PageRange {
-            object,
-            start: page,
+            object: address.object,
+            start: address.page,
             length: 1,
             offset: 0,
             backing: BackingPages::Single(fresh_number(s)),
@@ -33,79 +32,99 @@ pub fn own_spot(s: &Store, object: u32, page: PageNumber) -> Spot
 
 // "A backing held by two or more ranges is shared."
 pub fn is_shared(s: &Store, backing: u32) -> bool
-    requires { s.now.count ≤ 512 }
     ensures { result ≡ is_shared backing (ranges_of (used s.now)) }
 {
     1 < holder_count(s, backing)
 }
 
-// The range that covers the page, or a range of its own where that is shared.
-fn covered_spot(s: &Store, object: u32, page: PageNumber, r: PageRange) -> Spot
-    requires { (s.now.count ≤ 512) × (Small r) × (from (ranged r) ≤ line object page.0) × (line object page.0 < upto (ranged r)) × (page.0 < 262144) }
-    ensures { result ≡ spot_in s.now object page.0 r }
-{
-    if is_shared(s, r.backing.number()) {
-        return own_spot(s, object, page);
-    }
-    Spot {
-        range: r,
-        index: index_in(r, line_of(object, page)),
-    }
+// A page that is added, and the last range that begins at or before it.
+#[derive(Clone, Copy)]
+struct Before<'a> {
+    store: &'a Store,
+    address: PageAddress,
+    range: PageRange,
+    ghost small: { Small range },
+    ghost begins: { from (ranged range) ≤ line address.object address.page.0 },
 }
 
-// Whether an uncovered page joins the range before it.
-fn can_join(s: &Store, object: u32, page: PageNumber, r: PageRange) -> bool
-    requires { (s.now.count ≤ 512) × (Small r) × (upto (ranged r) ≤ line object page.0) × (page.0 < 262144) }
-    ensures { result ≡ joins object page.0 (ranges_of (used s.now)) (range_of r) }
-{
-    let end = line_of(object, page) + 1;
-    let gap = end - r.end();
-    let long = end - r.first();
-    r.object == object
-        && holder_count(s, r.backing.number()) == 1
-        && gap <= 16
-        && r.offset as usize + long <= 1048576
-}
+impl Before<'_> {
+    // The range, which covers the page, or a range of its own where that is shared.
+    fn covered_spot(&self) -> Spot
+        requires { line self.now.address.object self.now.address.page.0 < upto (ranged self.now.range) }
+        ensures { result ≡ spot_in self.now.store.now self.now.address.object self.now.address.page.0 self.now.range }
+    {
+        if is_shared(self.store, self.range.backing.number()) {
+            return own_spot(self.store, self.address);
+        }
+        Spot {
+            range: self.range,
+            index: index_in(self.range, self.address.line()),
+        }
+    }
 
-// The range before an uncovered page, made longer up to it.
-fn longer_spot(r: PageRange, g: usize) -> Spot
-    requires { (Small r) × (upto (ranged r) ≤ g) × (r.offset + (suc g - from (ranged r)) ≤ 1048576) }
-    ensures { result ≡ longer_spot r g }
-{
-    let k = (g - r.first()) as u32;
-    Spot {
-        range: PageRange {
-            length: k + 1,
-            backing: BackingPages::Many(r.backing.number()),
-            ..r
-        },
-        index: r.offset + k,
+    // Whether the page, which the range does not cover, joins it.
+    fn can_join(&self) -> bool
+        requires { upto (ranged self.now.range) ≤ line self.now.address.object self.now.address.page.0 }
+        ensures { result ≡ joins self.now.address.object self.now.address.page.0 (ranges_of (used self.now.store.now)) (range_of self.now.range) }
+    {
+        let Before {
+            store,
+            address,
+            range: r,
+        } = *self;
+        let end = address.line() + 1;
+        r.object == address.object
+            && holder_count(store, r.backing.number()) == 1
+            && end - r.end() <= 16
+            && r.offset as usize + (end - r.first()) <= 1048576
     }
-}
 
-// Of a page that is added, r being the last range that begins at or before it.
-fn spot_in(s: &Store, object: u32, page: PageNumber, r: PageRange) -> Spot
-    requires { (s.now.count ≤ 512) × (Small r) × (from (ranged r) ≤ line object page.0) × (page.0 < 262144) }
-    ensures { result ≡ spot_in s.now object page.0 r }
-{
-    let g = line_of(object, page);
-    if g < r.end() {
-        return covered_spot(s, object, page, r);
+    // The range made longer up to the page.
+    fn longer_spot(&self) -> Spot
+        requires { (upto (ranged self.now.range) ≤ line self.now.address.object self.now.address.page.0) × (self.now.range.offset + (suc (line self.now.address.object self.now.address.page.0) - from (ranged self.now.range)) ≤ 1048576) }
+        ensures { result ≡ longer_spot self.now.range (line self.now.address.object self.now.address.page.0) }
+    {
+        let r = self.range;
+        let k = (self.address.line() - r.first()) as u32;
+        Spot {
+            range: PageRange {
+                length: k + 1,
+                backing: BackingPages::Many(r.backing.number()),
+                ..r
+            },
+            index: r.offset + k,
+        }
     }
-    if can_join(s, object, page, r) {
-        return longer_spot(r, g);
+
+    // Of the page.
+    fn spot(&self) -> Spot
+        ensures { result ≡ spot_in self.now.store.now self.now.address.object self.now.address.page.0 self.now.range }
+    {
+        if self.address.line() < self.range.end() {
+            return self.covered_spot();
+        }
+        if self.can_join() {
+            return self.longer_spot();
+        }
+        own_spot(self.store, self.address)
     }
-    own_spot(s, object, page)
 }
 
 // Of a page that is added.
-pub fn spot_of(s: &Store, object: u32, page: PageNumber) -> Spot
-    requires { (Table s.now.ranges s.now.count) × (page.0 < 262144) }
-    ensures { result ≡ spot_of s.now object page.0 }
+pub fn spot_of(s: &Store, address: PageAddress) -> Spot
+    requires { Table s.now.ranges s.now.count }
+    ensures { result ≡ spot_of s.now address.object address.page.0 }
 {
-    let n = starts_before(s, line_of(object, page) + 1);
-    if n == 0 {
-        return own_spot(s, object, page);
+    match last_by(s, address.line()) {
+        None => own_spot(s, address),
+        Some(k) => {
+            let range = s.ranges[k];
+            let before = Before {
+                store: s,
+                address,
+                range,
+            };
+            before.spot()
+        }
     }
-    spot_in(s, object, page, s.ranges[n - 1])
 }

@@ -1,140 +1,137 @@
 // BYTES WRITTEN TO MANY PAGES, from a slice or from another object within the pool, page after page, in a store and a pool that are lent inside a call.
 #![tactic(auto)]
 
-ghost use Rattle.std.specs.Prelude.{◌≡◌, ◌+◌, ◌*◌, ◌/◌, ◌%◌, ◌≤◌, length, take, Some, IfSome};
-ghost use Rattle.std.proofs.Math.Seq.{paste};
+ghost use Rattle.std.specs.Prelude.{◌≡◌, ◌+◌, ◌≤◌, length, take, Some};
 ghost use Rattle.book.specs.Page.{over};
 ghost use Rattle.book.specs.Bytes.{reading};
-ghost use Rattle.table.specs.Table.{Table};
 ghost use Rattle.places.specs.Places.{frame_at};
-ghost use Rattle.store.specs.Spare.{work_of};
-ghost use Rattle.pages.specs.Inside.{Inside, Wrote};
+ghost use Rattle.pages.specs.Inside.{Wrote};
 ghost use Rattle.pages.specs.Present as pagesPresent;
 ghost use Rattle.writes.specs.Written.{Room, Written};
-ghost use Rattle.moves.specs.Moving.{Away};
-ghost use Rattle.moves.specs.Source.{Elsewhere};
 ghost use Rattle.charts.specs.Charts.{RangeChains};
 ghost use Rattle.lookup.specs.Charted.{Charted, Lone};
+ghost use Rattle.page_steps.specs.Lent.{Same, state};
+ghost use Rattle.page_writes.specs.Copied.{Copied};
 
 use charts::{Charts, chain_to};
 use lookup::{Pages, States};
 use page::PageNumber;
 use page_parts::{Part, Parts};
-use refusals::Passage;
+use page_steps::{PageAddress, Work};
+use refusals::{Between, Passage};
 use store::Store;
 
 // The bytes of src written from `offset` on: "Calls work in page order". By hand: the slice tells how many, so an `Extent` would tell it twice.
-pub fn write_pages(s: &mut Store, pool: &mut [u8], object: u32, offset: usize, src: &[u8])
-    requires { Room s.old pool.old object offset (length src.now) }
-    ensures { Written s.old pool.old object offset src.now s.new pool.new }
+pub fn write_pages(work: &mut Work, object: u32, offset: usize, src: &[u8])
+    requires { Room work.old.store.now work.old.pool.now object offset (length src.now) }
+    ensures { (Written work.old.store.now work.old.pool.now object offset src.now work.new.store.now work.new.pool.now) × (Same work.old work.new) }
 {
     for part in Parts::new(offset, src.len()) {
+        let address = PageAddress {
+            object,
+            page: part.page,
+        };
         let bytes = &src[part.done..part.done + part.n];
-        page_steps::write_page(s, pool, object, offset + part.done, bytes);
+        work.write_page(address, part.place, bytes);
     }
 }
 
-// The frame that stands at this backing and index, if it is among the first eight of the chain that this place had when the call began. Nothing is asked of the charts: a
-// frame that stands there now is the only one.
-fn guess(s: &Store, charts: &Charts, backing: u32, index: u32) -> Option<usize>
-    requires { (s.now.frames ≤ 1024) × Lone s.now }
-    ensures { IfSome result (λ frame. Some frame ≡ frame_at backing index 0 (take s.now.frames s.now.places)) }
-{
-    let mut link = charts.frames.heads[chain_to(backing, index)] as usize;
-    for _ in 0..8 {
-        if link == 0 || s.frames < link {
-            return None;
-        }
-        let frame = link - 1;
-        if s.places[frame].stands_at(backing, index) {
-            return Some(frame);
-        }
-        link = charts.frames.next[frame] as usize;
-    }
-    None
-}
-
-// The frame that stands at this backing and index: as the chains of the call's beginning have it, or else found among all.
+// The frame that stands at this backing and index: looked for among the first eight of the chain that this place had when the call began, and else among all. Nothing is asked of the
+// charts: a frame that stands there now is the only one.
 fn frame_by(s: &Store, charts: &Charts, backing: u32, index: u32) -> Option<usize>
-    requires { (s.now.frames ≤ 1024) × Lone s.now }
+    requires { Lone s.now }
     ensures { result ≡ frame_at backing index 0 (take s.now.frames s.now.places) }
 {
-    guess(s, charts, backing, index).or_else(|| page_steps::frame_at(s, backing, index))
+    let places = s.frame_places();
+    charts
+        .frames
+        .chain(chain_to(backing, index))
+        .take(8)
+        .find(|frame| *frame < places.len() && places[*frame].stands_at(backing, index))
+        .or_else(|| page_steps::frame_at(s, backing, index))
 }
 
-// m bytes of object source from offset `from` on, stored from index at in a frame that has none of its pages: a slot to begin at for the next bytes, as
-// these are looked for from the slot `hint` on. "Each source page is judged separately."
-fn move_in(
-    s: &Store,
-    charts: &Charts,
-    pool: &mut [u8],
-    source: u32,
-    from: usize,
-    hint: usize,
-    at: usize,
-    m: usize,
-) -> usize
-    requires table { (Table s.now.ranges s.now.count) × (s.now.frames ≤ 1024) × (length pool.old ≡ s.now.frames * 4096) × Lone s.now }
-    requires m_bound { (from + m ≤ 1073741824) × (at % 4096 + m ≤ 4096) × (at + m ≤ length pool.old) × (Away s.now source (at / 4096)) }
-    ensures { pool.new ≡ paste pool.old at (reading source from m (work_of s.now pool.old)) m }
-{
-    in_place::move_in(
-        s,
-        pool,
-        source,
-        from,
-        hint,
-        at,
-        m,
-        |backing, index| frame_by(s, charts, backing, index),
-    )
+// A copy from one object to another, and the charts that its call began with.
+#[derive(Clone, Copy)]
+pub struct Copier<'a> {
+    pub charts: &'a Charts,
+    pub between: Between,
 }
 
-// A part of a copy written to its page, as its source is looked for from the slot `hint` on: a slot to begin at for the next part.
-fn copy_part(
-    s: &mut Store,
-    charts: &Charts,
-    pool: &mut [u8],
-    passage: Passage,
-    part: Part,
-    hint: usize,
-) -> usize
-    requires room { (Inside s.old pool.old) × (pagesPresent.Room s.old pool.old passage.object part.page.0) }
-    requires passage { (passage.source ≡ passage.object → ⊥) × (passage.from + part.done + part.n ≤ 1073741824) }
-    ensures { Wrote s.old pool.old passage.object part.page.0 (over part.place (reading passage.source (passage.from + part.done) part.n (work_of s.old pool.old))) s.new pool.new }
-{
-    let frame = page_steps::make_writable(s, pool, passage.object, part.page);
-    let at = frame * PageNumber::PAGE_SIZE + part.place;
-    let from = passage.from + part.done;
-    move_in(s, charts, pool, passage.source, from, hint, at, part.n)
-}
-
-// The bytes of a copy, page after page: "At unequal places all is bytes".
-pub fn copy_bytes(s: &mut Store, charts: &Charts, pool: &mut [u8], passage: Passage)
-    requires { (Room s.old pool.old passage.object passage.to passage.n) × (passage.source ≡ passage.object → ⊥) × (passage.from + passage.n ≤ 1073741824) }
-    ensures { (Written s.old pool.old passage.object passage.to (reading passage.source passage.from passage.n (work_of s.old pool.old)) s.new pool.new) × (Elsewhere passage.object (work_of s.old pool.old) (work_of s.new pool.new)) }
-{
-    let mut slot = 0;
-    for part in Parts::new(passage.to, passage.n) {
-        slot = copy_part(s, charts, pool, passage, part, slot);
-    }
-}
-
-// The same, over the pages that are present and private first, which are found by the chains: from the first other one on the store changes.
-pub fn copy_over(s: &mut Store, charts: &Charts, pool: &mut [u8], passage: Passage)
-    requires charted { (Charted s.old charts.now) × (RangeChains s.old.ranges s.old.count charts.now.ranges) }
-    requires passage { (Room s.old pool.old passage.object passage.to passage.n) × (passage.source ≡ passage.object → ⊥) × (passage.from + passage.n ≤ 1073741824) }
-    ensures { (Written s.old pool.old passage.object passage.to (reading passage.source passage.from passage.n (work_of s.old pool.old)) s.new pool.new) × (Elsewhere passage.object (work_of s.old pool.old) (work_of s.new pool.new)) }
-{
-    let pages = Pages { store: s, charts };
-    let done = in_place::overcopy_pages(&States { pages }, pool, passage);
-    if done < passage.n {
-        let left = Passage {
-            from: passage.from + done,
-            to: passage.to + done,
-            n: passage.n - done,
-            ..passage
+impl<'a> Copier<'a> {
+    // A part of it: n bytes from byte `done` on.
+    pub fn part(&self, done: usize, n: usize) -> Copier<'a>
+        requires { done + n ≤ self.now.between.passage.n }
+        ensures passage { result.between.passage ≡ record { source = self.now.between.passage.source; from = self.now.between.passage.from + done; object = self.now.between.passage.object; to = self.now.between.passage.to + done; n = n } }
+        ensures charts { result.charts.now ≡ self.now.charts.now }
+    {
+        let Copier { charts, between } = *self;
+        let passage = Passage {
+            from: between.passage.from + done,
+            to: between.passage.to + done,
+            n,
+            ..between.passage
         };
-        copy_bytes(s, charts, pool, left);
+        Copier {
+            charts,
+            between: Between { passage },
+        }
+    }
+
+    // A part written to its page, as its source is looked for from the slot `hint` on: a slot to begin at for the next part. By hand, here and below: a struct of
+    // copier and work would be lent `&mut` where only the work changes.
+    fn copy_part(&self, work: &mut Work, part: Part, hint: usize) -> usize
+        requires room { pagesPresent.Room work.old.store.now work.old.pool.now self.now.between.passage.object part.page.0 }
+        requires within { part.done + part.n ≤ self.now.between.passage.n }
+        ensures { (Wrote work.old.store.now work.old.pool.now self.now.between.passage.object part.page.0 (over part.place (reading self.now.between.passage.source (self.now.between.passage.from + part.done) part.n (state work.old))) work.new.store.now work.new.pool.now) × (Same work.old work.new) }
+    {
+        let passage = self.between.passage;
+        let address = PageAddress {
+            object: passage.object,
+            page: part.page,
+        };
+        let frame = work.make_writable(address);
+        let at = frame * PageNumber::PAGE_SIZE + part.place;
+        let from = passage.from + part.done;
+        let store: &Store = work.store;
+        let charts = self.charts;
+        in_place::move_in(
+            store,
+            work.pool,
+            passage.source,
+            from,
+            hint,
+            at,
+            part.n,
+            |backing, index| frame_by(store, charts, backing, index),
+        )
+    }
+
+    // Its bytes, page after page: "At unequal places all is bytes". By hand: as above.
+    pub fn copy_bytes(&self, work: &mut Work)
+        requires { Room work.old.store.now work.old.pool.now self.now.between.passage.object self.now.between.passage.to self.now.between.passage.n }
+        ensures { Copied self.now.between.passage work.old work.new }
+    {
+        let mut slot = 0;
+        for part in Parts::new(self.between.passage.to, self.between.passage.n) {
+            slot = self.copy_part(work, part, slot);
+        }
+    }
+
+    // The same, over the pages that are present and private first, which are found by the chains: from the first other one on the store changes. By hand: as above.
+    pub fn copy_over(&self, work: &mut Work)
+        requires charted { (Charted work.old.store.now self.now.charts.now) × (RangeChains work.old.store.now.ranges work.old.store.now.count self.now.charts.now.ranges) }
+        requires room { Room work.old.store.now work.old.pool.now self.now.between.passage.object self.now.between.passage.to self.now.between.passage.n }
+        ensures { Copied self.now.between.passage work.old work.new }
+    {
+        let passage = self.between.passage;
+        let pages = Pages {
+            store: work.store,
+            charts: self.charts,
+        };
+        let done = in_place::overcopy_pages(&States { pages }, work.pool, passage);
+        if done < passage.n {
+            self.part(done, passage.n - done).copy_bytes(work);
+        }
     }
 }

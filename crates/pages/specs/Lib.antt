@@ -13,3 +13,4 @@ pub mod Settling
 pub mod Spot
 pub mod Steps
 pub mod Trimming
+pub mod Unique

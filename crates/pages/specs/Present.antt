@@ -32,6 +32,10 @@ pub record Room (s : Store) (x : List ℕ) (o p : ℕ) : Type 0 where
   pub frames : wants o p (work_of s x) ≤ length (spare_of s.free 1024)
   pub slots : s.count + 2 * wants o p (work_of s x) ≤ 512
 
+-- there are a frame and two slots, so that any page may be added
+abbrev pub HasRoom : Store → Type 0
+HasRoom s = (0 < length (spare_of s.free 1024)) × (s.count + 2 ≤ 512)
+
 -- ---- what `locate` finds
 
 pub record Held (s : Store) (x : List ℕ) (o p : ℕ) (l : Located) : Type 0 where

@@ -1,4 +1,4 @@
--- A PAGE THAT IS PRESENT AND PRIVATE, as `private_frame` finds it: it is written where it is.
+-- A PAGE THAT IS PRESENT AND PRIVATE, as `States::private_near` finds it: it is written where it is.
 use Rattle.std.specs.Prelude.{◌≡◌, refl, false, List, ℕ, ltb, Option, Some, None}
 use Rattle.std.proofs.Common.{ap, subst, ◌∙◌, arith}
 use Rattle.store.specs.declared.Store.{Store}

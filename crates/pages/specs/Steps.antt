@@ -5,7 +5,7 @@ use Rattle.std.proofs.Common.{subst, ◌∙◌, le_refl, arith, take_all}
 use Prim.Native.Nat.{ℕ, ◌+◌, ◌*◌, ◌/◌, ◌%◌, ◌≤◌, ◌<◌}
 use Rattle.std.proofs.Math.ListN.{length}
 use Rattle.std.proofs.lemmas.List.{length-replicate}
-use Rattle.std.proofs.Math.Seq.{length-take-le, paste}
+use Rattle.std.proofs.Math.Seq.{length-take-le, paste, take-length}
 use Rattle.store.specs.declared.Store.{Store}
 use Rattle.pages.specs.declared.Spot.{Spot}
 use Rattle.ranges.specs.Range.{line, slot_at}
@@ -22,6 +22,7 @@ use Rattle.store.specs.Abs.{used}
 use Rattle.store.specs.Edits.{slot, write_edit}
 use Rattle.store.specs.Located.{only_apart}
 use Rattle.store.specs.Spare.{work_of}
+use Rattle.pages.specs.Any.{inside_any}
 use Rattle.pages.specs.Inside.{Inside, Stepped, Wrote, inside_table}
 use Rattle.pages.specs.Spot.{own_spot, spot_of}
 use Rattle.pages.specs.Settling.{Placed, Lodged, frame_below, settled_work, settled_inside, settled_has}
@@ -155,6 +156,28 @@ module _ (s : Store) (x : List ℕ) (I : Inside s x) (o p : ℕ) (hp : p < 26214
       has = S.has;
       others = λ j ne. paste_other 4096 y f k d m within fits enough j ne ∙ S.others j ne;
     }
+
+-- between the two halves of a step, the store changed and the pool not yet, it is inside the call too: the bytes do not matter
+pub added_inside : (s : Store) (x : List ℕ) → Inside s x → (o p : ℕ) → p < 262144 → (f : ℕ) → highest_below s.free 1024 ≡ Some f → (t : Store) → Placed s (spot_of s o p) f t
+    → Inside t x
+added_inside s x I o p hp f hf t P =
+    let S = add_stepped s x I o p hp f hf t (frame_zeroed 4096 x f) P refl in
+    inside_any t (frame_zeroed 4096 x f) S.inside x (sym (zeroed_length 4096 x f (frame_inside s x I f (frame_below s x I f hf))))
+
+pub copied_inside : (s : Store) (x : List ℕ) → Inside s x → (o p : ℕ) → p < 262144 → (f : ℕ) → highest_below s.free 1024 ≡ Some f → (t : Store) → (g : ℕ) → Present s x o p g
+    → is_shared (place_at s.places g).backing (ranges_of (used s)) ≡ true → Placed s (own_spot s o p) f t → Inside t x
+copied_inside s x I o p hp f hf t g H h P =
+    let S = copy_stepped s x I o p hp f hf t (frame_copied 4096 x f g) g H h P refl in
+    inside_any t (frame_copied 4096 x f g) S.inside x (sym (copied_length 4096 x f g (frame_inside s x I f (frame_below s x I f hf)) (frame_inside s x I g H.has.below)))
+
+-- bytes written to a page from place k of it on
+pub bytes_wrote : (s : Store) (x : List ℕ) → Inside s x → (o p : ℕ) → p < 262144 → (t : Store) (y : List ℕ) (f : ℕ) → Stepped s x o p (writable o p (work_of s x)) t y f
+    → (k : ℕ) (d : List ℕ) → k + length d ≤ 4096 → (z : List ℕ) → z ≡ paste y (f * 4096 + k) d (length d) → Wrote s x o p (over k d) t z
+bytes_wrote s x I o p hp t y f S k d fits z q =
+    let A : Stepped s x o p (write_page o p (over k (take (length d) d)) (work_of s x)) t (paste y (f * 4096 + k) d (length d)) f =
+    write_stepped s x I o p hp t y f S k d (length d) fits (le_refl (length d)) in
+    let B = subst (λ (u : List ℕ). Stepped s x o p (write_page o p (over k u) (work_of s x)) t (paste y (f * 4096 + k) d (length d)) f) (take-length d) A in
+    record { frame = f; step = subst (λ (u : List ℕ). Stepped s x o p (write_page o p (over k d) (work_of s x)) t u f) (sym q) B }
 
 -- bytes written to the page that an offset lies in
 pub write_wrote : (s : Store) (x : List ℕ) → Inside s x → (o off : ℕ) → off < 1073741824 → (p k : ℕ) → p ≡ off / 4096 → k ≡ off % 4096 → (t : Store) (y : List ℕ) (f : ℕ)

@@ -1,9 +1,7 @@
 // Runs copies of whole pages between partly touched ones, and of pages that the source does not cover. Answers are written by hand from document 01. One line a case.
 #![tactic(auto)]
 
-ghost use Rattle.std.specs.Prelude.{◌≤◌, length};
-
-use access_samples::{five, frames, high, leaves, read_is, small};
+use access_samples::{filled, five, frames, high, leaves, read_is, small};
 use copy_samples::{across, copied, copy, quiet};
 use places::Place;
 use samples::{FREE, absent, many, place, private, report, shared, single, sound, store};
@@ -17,9 +15,7 @@ fn eight() -> [u8; 32768] {
 }
 
 // Pages 0 to 4 of object 0 in frames 7 to 3, and these places of frames 1 and 2.
-fn wide(ranges: &[PageRange], one: Place, two: Place, w: u64) -> Store
-    requires { length ranges.now ≤ 512 }
-{
+fn wide(ranges: &[PageRange], one: Place, two: Place, w: u64) -> Store {
     let p = [
         FREE,
         one,
@@ -48,9 +44,8 @@ fn parts() {
     let mut pool = eight();
     let s = wide(&[many(0, 0, 5, 0, 1)], FREE, FREE, 7);
     let r = copy(s, &mut pool, across(4000, 4000, 12394));
-    let mut want = frames(&[1, 0, 0, 4, 5, 6, 7, 8]);
-    pool::fill(&mut want, 12192, 96, 8);
-    pool::fill(&mut want, 4096, 10, 4);
+    let want = filled(frames(&[1, 0, 0, 4, 5, 6, 7, 8]), 12192, 96, 8);
+    let want = filled(want, 4096, 10, 4);
     let right = leaves(r, wide_then()) && pool == want;
     report("three pages between parts of two", right);
     parts_read(r.unwrap_or(s), &pool);
@@ -86,9 +81,8 @@ fn parts_cut() {
     ];
     let p = [FREE, place(3, 0), FREE, FREE, place(1, 0)];
     let t = small(3, &b, &p, 13);
-    let mut want = frames(&[1, 3, 3, 4, 5]);
-    pool::fill(&mut want, 20384, 96, 0);
-    pool::fill(&mut want, 4096, 10, 0);
+    let want = filled(frames(&[1, 3, 3, 4, 5]), 20384, 96, 0);
+    let want = filled(want, 4096, 10, 0);
     copied(
         "a last page that is shared when it is reached",
         s,
@@ -124,8 +118,7 @@ fn trailing_part() {
     let r = [a, b, single(1, 0, 1, 0, 1), many(1, 1, 2, 0, 2)];
     let p = [FREE, place(2, 1), place(3, 0), place(2, 0), place(1, 0)];
     let t = small(3, &r, &p, 1);
-    let mut want = frames(&[1, 0, 3, 4, 5]);
-    pool::fill(&mut want, 4096, 10, 3);
+    let want = filled(frames(&[1, 0, 3, 4, 5]), 4096, 10, 3);
     copied(
         "part of a page behind a skipped one",
         s,
@@ -144,8 +137,7 @@ fn gone_at_once() {
     let r = [a, single(1, 4, 1, 0, 3), many(1, 5, 3, 0, 1)];
     let p = [place(1, 2), place(3, 0), place(2, 0), place(1, 0), FREE];
     let t = small(3, &r, &p, 16);
-    let mut want = frames(&[0, 5, 3, 4, 5]);
-    pool::fill(&mut want, 8096, 96, 3);
+    let want = filled(frames(&[0, 5, 3, 4, 5]), 8096, 96, 3);
     copied(
         "a range extended over what was cut out",
         s,
@@ -156,7 +148,7 @@ fn gone_at_once() {
     report("what was cut out does not return", absent(t, 1, 6));
 }
 
-// The parts, one after another. By hand: a table of them would be one of function pointers.
+// The parts, one after another. By hand: a table of functions and a loop over it say no more than the calls.
 fn main() {
     parts();
     parts_cut();

@@ -1,7 +1,8 @@
 -- The tests of a frame's place and of its bit, made as one.
-use Rattle.std.specs.Prelude.{◌≡◌, refl, Bool, true, false, not, ◌&&◌, ◌||◌, List, ℕ, zero, suc, ◌+◌, ◌-◌, ◌*◌, ◌/◌, ◌%◌, ◌^◌, ◌≤◌, ◌<◌, eqb, ltb, get_or, count_by, length, take}
-use Rattle.std.proofs.Common.{sym, ap, ◌∙◌, pow-suc, add-one, le-ltb, lt-ltb, ne_eqb}
+use Rattle.std.specs.Prelude.{◌≡◌, refl, Bool, true, false, not, ◌&&◌, ◌||◌, List, ℕ, zero, suc, ◌+◌, ◌-◌, ◌*◌, ◌/◌, ◌%◌, ◌^◌, ◌≤◌, ◌<◌, eqb, ltb, get_or, count_by, drop, length, take}
+use Rattle.std.proofs.Common.{sym, ap, ◌∙◌, pow-suc, add-one, get_or-drop, get_or-take, le-ltb, lt-ltb, ne_eqb}
 use Rattle.std.proofs.lemmas.Bool.{false≢true}
+use Rattle.std.proofs.lemmas.List.{length-take}
 use Rattle.std.proofs.lemmas.List.Sums.{count_by_more_no, count_by_more_yes}
 use Rattle.std.proofs.Math.Nat.{div-div-eq-div-mul, zero-div}
 use native.Mathlib.Omega.{arith}
@@ -10,7 +11,7 @@ use Rattle.lists.specs.Test.{by-lt, by-test}
 use Rattle.lists.specs.Every.{all_below, at_below, below_at}
 use Rattle.frames.specs.Free.{free_bit}
 use Rattle.frames.specs.Bits.{not_bit}
-use Rattle.places.specs.Places.{place_at}
+use Rattle.places.specs.Places.{nowhere, place_at}
 use Rattle.store.specs.Sound.{bit?, idle?, same}
 
 pub below_both : (P Q : ℕ → Bool) (n : ℕ) → all_below (λ f. P f && Q f) n ≡ (all_below P n && all_below Q n)
@@ -124,3 +125,10 @@ none_counted P d l Q (suc n) m e =
 pub not_not : (b : Bool) → not (not b) ≡ b
 not_not true = refl
 not_not false = refl
+
+-- place k of the 64 from a on
+pub part_place : (ps : List Place) (a k : ℕ) → k < length (take (a + 64 - a) (drop a ps)) → (k < 64) × (get_or (take (a + 64 - a) (drop a ps)) k nowhere ≡ place_at ps (a + k))
+part_place ps a k h =
+    let n : a + 64 - a ≡ 64 = omega arith in
+    let l : k < 64 = omega (arith, h, length-take (a + 64 - a) (drop a ps)) in
+    (l, get_or-take (a + 64 - a) (drop a ps) k nowhere (omega arith) ∙ get_or-drop a ps k nowhere)

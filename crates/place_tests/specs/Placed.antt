@@ -1,17 +1,18 @@
 -- What the tests of the frames' places come to, frame by frame.
-use Rattle.std.specs.Prelude.{◌≡◌, refl, Bool, true, false, ◌&&◌, List, ℕ, ◌+◌, ◌-◌, ◌*◌, ◌≤◌, ◌<◌, Result, Ok, Err, min, eqb, get_or, replicate, take}
-use Rattle.std.proofs.Common.{sym, ◌∙◌, arith, eq-eqb, eqb-true, ne_eqb}
+use Rattle.std.specs.Prelude.{◌≡◌, refl, Bool, true, false, ◌&&◌, List, ℕ, ◌+◌, ◌-◌, ◌*◌, ◌≤◌, ◌<◌, Result, Ok, Err, min, eqb, get_or, replicate}
+use Rattle.std.proofs.Common.{sym, ap, ◌∙◌, arith, drop, length, eq-eqb, eqb-true, get_or-drop, get_or-take, ne_eqb, take}
 use Rattle.table.specs.declared.PageRange.{PageRange}
 use Rattle.places.specs.declared.Place.{Place}
 use Rattle.chains.specs.declared.Chains.{Chains}
 use Rattle.store.specs.declared.Store.{Store}
-use Rattle.place_tests.specs.declared.GaveUpAt.{GaveUpAt}
-use Rattle.std.proofs.lemmas.Bool.{false≢true}
+use Rattle.window_search.specs.declared.GaveUpAt.{GaveUpAt}
+use Rattle.std.proofs.lemmas.Bool.{eqb-false, false≢true}
+use Rattle.std.proofs.lemmas.List.{length-take}
 use Rattle.lists.specs.Test.{and_left, by-lt, by-test}
 use Rattle.lists.specs.Every.{all_below, at_below, below_at, below_fails, below_next, below_zero, none_both, true_both}
 use Rattle.ranges.specs.Table.{named}
 use Rattle.table.specs.Table.{ranges_of}
-use Rattle.places.specs.Places.{place_at}
+use Rattle.places.specs.Places.{is_vacant, nowhere, place_at}
 use Rattle.charts.specs.Charts.{chain_at}
 use Rattle.store.specs.Abs.{used}
 use Rattle.store.specs.Sound.{alone?, window?}
@@ -24,8 +25,8 @@ abbrev pub in_window? : Store → Place → Bool
 in_window? s p = named p.backing p.index (ranges_of (used s))
 
 -- what the windows of the store's ranges say
-pub window_is : (s : Store) (p : Place) (rs : List PageRange) (n : ℕ) → rs ≡ s.ranges → n ≡ s.count → (q : Bool) → q ≡ named p.backing p.index (ranges_of (take n rs)) → in_window? s p ≡ q
-window_is s p rs n e c q h = rw (← e, ← c) (sym h)
+pub window_is : (s : Store) (p : Place) (rs : List PageRange) → rs ≡ used s → (q : Bool) → q ≡ named p.backing p.index (ranges_of rs) → in_window? s p ≡ q
+window_is s p rs e q h = sym (h ∙ ap (λ (l : List PageRange). named p.backing p.index (ranges_of l)) e)
 
 -- "Each frame .. stands in exactly one backing at one index, no two at the same", and "lies in the window of some range that holds the vector": of frame f
 abbrev pub placed_at? : Store → ℕ → Bool
@@ -88,6 +89,23 @@ placed_less s m n c l P =
 
 pub placed_seated : (s : Store) (n : ℕ) (c : Chains) → Placed s n c (Ok true) → Seated s n c
 placed_seated s n c P = record { passed = sym P.0; charted = P.1 refl }
+
+-- place k of those of the frames from a up to e is that of frame a + k
+module _ (ps : List Place) (a e k : ℕ) (h : k < length (take (e - a) (drop a ps))) where
+  below_end : k < e - a
+  below_end = omega (arith, h, length-take (e - a) (drop a ps))
+
+  pub part_low : a + k < e
+  part_low = omega (arith, below_end)
+
+  pub part_at : get_or (take (e - a) (drop a ps)) k nowhere ≡ place_at ps (a + k)
+  part_at = get_or-take (e - a) (drop a ps) k nowhere below_end ∙ get_or-drop a ps k nowhere
+
+  pub part_free : is_vacant (get_or (take (e - a) (drop a ps)) k nowhere) ≡ true → (place_at ps (a + k)).backing ≡ 0
+  part_free t = eqb-true (place_at ps (a + k)).backing 0 (sym (ap is_vacant part_at) ∙ t)
+
+  pub part_used : is_vacant (get_or (take (e - a) (drop a ps)) k nowhere) ≡ false → Used ps (a + k)
+  part_used t = eqb-false (place_at ps (a + k)).backing 0 (sym (ap is_vacant part_at) ∙ t)
 
 -- a word of the map with every bit set says that its frames are free
 pub free_word : (n : ℕ) (ps : List Place) (ws : List ℕ) (i : ℕ) → i < 16 → get_or ws i 0 ≡ 18446744073709551615 → all_below (kept? n ps ws) 1024 ≡ true

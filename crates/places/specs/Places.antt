@@ -34,6 +34,10 @@ unfoldable pub used_count : List Place → ℕ
 used_count [] = 0
 used_count (p ∷ ps) = pick (ltb 0 p.backing) 1 0 + used_count ps
 
+-- "Each frame is free or stands in exactly one backing at one index": it stands at no backing
+abbrev pub is_vacant : Place → Bool
+is_vacant p = eqb p.backing 0
+
 -- frame f is one of the first n and stands at no backing
 abbrev pub vacant : ℕ → List Place → ℕ → Bool
 vacant n ps f = ltb f n && eqb (place_at ps f).backing 0

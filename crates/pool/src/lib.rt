@@ -1,10 +1,13 @@
 // The bytes of the lent pool. Frame f is the 4,096 bytes from f × 4,096.
+// By hand: `pool`, `at`, `n` and `at + n ≤ length pool`, or `at`, `from`, `n`: a slice of the part would do for the bytes, but what is promised is told of the whole pool,
+// which is what the callers' proofs speak of.
 #![tactic(auto)]
 
 ghost use Rattle.std.specs.Prelude.{◌≡◌, ◌+◌, ◌*◌, ◌≤◌, length, drop};
 ghost use Rattle.std.proofs.Math.Seq.{paste};
 ghost use Rattle.pool.specs.Bytes.{address, filled, frame_copied, frame_zeroed, shown, shown_from};
 
+// By hand: the pool knows pages by their size alone, and no page numbers.
 pub const PAGE_SIZE: usize = 4096;
 
 // n bytes of the pool from index at set to b.
@@ -24,7 +27,8 @@ pub fn copy(d: &mut [u8], at: usize, s: &[u8], from: usize, n: usize)
     d[at..at + n].copy_from_slice(&s[from..from + n]);
 }
 
-// n bytes of the pool from index from to index at. The two parts may overlap: at then holds what stood at from.
+// n bytes of the pool from index from to index at. The two parts may overlap: at then holds what stood at from. The store moves a page at most, by `move_within`; this
+// is for a caller of the crate, as crates/pool_cases is, that moves more.
 pub fn copy_within(pool: &mut [u8], at: usize, from: usize, n: usize)
     requires { (at + n ≤ length pool.old) × (from + n ≤ length pool.old) }
     ensures { pool.new ≡ paste pool.old at (drop from pool.old) n }
@@ -58,7 +62,8 @@ pub fn zero_frame(pool: &mut [u8], f: usize)
     fill(pool, f * PAGE_SIZE, PAGE_SIZE, 0);
 }
 
-// A frame as that part of the pool; an empty part where there is none or it does not lie in the pool.
+// A frame as that part of the pool; an empty part where there is none or it does not lie in the pool. The store's `show` is of a pool that is read; this is for a caller
+// of the crate, as crates/pool_cases is, that writes to the part.
 pub fn show(pool: &mut [u8], frame: Option<usize>) -> &mut [u8]
     ensures result_value { result.now ≡ shown 4096 pool.old frame }
     ensures ref_ptr_value { result.ref_ptr ≡ address pool.entry.ref_ptr (shown_from 4096 pool.old frame) }

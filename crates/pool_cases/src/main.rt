@@ -1,82 +1,144 @@
 // Runs each function of `pool` at the edges and compares what it leaves with values written by hand. One line a case.
 #![tactic(auto)]
 
-ghost use Rattle.std.specs.Prelude.{◌+◌, ◌≤◌, ◌<◌};
-
 use pool::PAGE_SIZE;
 use reports::report;
 
-// ---- short pools: the six bytes abcdef, and 01234567 to copy from
+// ---- short pools: what a function makes of the six bytes abcdef; 01234567 to copy from
 
-fn fill(name: &str, at: usize, n: usize, want: &[u8; 6])
-    requires { at + n ≤ 6 }
+fn short<F: FnOnce(&mut [u8; 6])>(name: &str, call: F, want: &[u8; 6])
+    requires { F.IsAlwaysCallable call }
 {
     let mut p = *b"abcdef";
-    pool::fill(&mut p, at, n, b'x');
-    report(name, p == *want);
-}
-
-fn copy(name: &str, at: usize, from: usize, n: usize, want: &[u8; 6])
-    requires { (at + n ≤ 6) × (from + n ≤ 8) }
-{
-    let mut d = *b"abcdef";
-    pool::copy(&mut d, at, b"01234567", from, n);
-    report(name, d == *want);
-}
-
-fn copy_within(name: &str, at: usize, from: usize, n: usize, want: &[u8; 6])
-    requires { (at + n ≤ 6) × (from + n ≤ 6) }
-{
-    let mut p = *b"abcdef";
-    pool::copy_within(&mut p, at, from, n);
-    report(name, p == *want);
-}
-
-fn move_within(name: &str, at: usize, from: usize, n: usize, want: &[u8; 6])
-    requires { (at + n ≤ 6) × (from + n ≤ 6) }
-{
-    let mut p = *b"abcdef";
-    pool::move_within(&mut p, at, from, n);
+    call(&mut p);
     report(name, p == *want);
 }
 
 fn fills() {
-    fill("fill nothing", 2, 0, b"abcdef");
-    fill("fill nothing at the end", 6, 0, b"abcdef");
-    fill("fill first byte", 0, 1, b"xbcdef");
-    fill("fill last byte", 5, 1, b"abcdex");
-    fill("fill middle", 2, 3, b"abxxxf");
-    fill("fill all", 0, 6, b"xxxxxx");
+    short("fill nothing", |p| pool::fill(p, 2, 0, b'x'), b"abcdef");
+    short(
+        "fill nothing at the end",
+        |p| pool::fill(p, 6, 0, b'x'),
+        b"abcdef",
+    );
+    short("fill first byte", |p| pool::fill(p, 0, 1, b'x'), b"xbcdef");
+    short("fill last byte", |p| pool::fill(p, 5, 1, b'x'), b"abcdex");
+    short("fill middle", |p| pool::fill(p, 2, 3, b'x'), b"abxxxf");
+    short("fill all", |p| pool::fill(p, 0, 6, b'x'), b"xxxxxx");
 }
 
-// Into the pool, and out of it.
-fn copies() {
-    copy("copy_in nothing", 6, 8, 0, b"abcdef");
-    copy("copy_in first byte", 0, 0, 1, b"0bcdef");
-    copy("copy_in last byte", 5, 7, 1, b"abcde7");
-    copy("copy_in middle", 1, 3, 2, b"a34def");
-    copy("copy_in all", 0, 2, 6, b"234567");
-    copy("copy_out nothing", 6, 8, 0, b"abcdef");
-    copy("copy_out first byte", 0, 0, 1, b"0bcdef");
-    copy("copy_out last byte", 5, 7, 1, b"abcde7");
-    copy("copy_out middle", 3, 5, 2, b"abc56f");
-    copy("copy_out all", 0, 0, 6, b"012345");
+// Into the pool. By hand: a list of cases, each with its numbers in the call itself, so that their bounds need not be asked for.
+fn copies_in() {
+    short(
+        "copy_in nothing",
+        |p| pool::copy(p, 6, b"01234567", 8, 0),
+        b"abcdef",
+    );
+    short(
+        "copy_in first byte",
+        |p| pool::copy(p, 0, b"01234567", 0, 1),
+        b"0bcdef",
+    );
+    short(
+        "copy_in last byte",
+        |p| pool::copy(p, 5, b"01234567", 7, 1),
+        b"abcde7",
+    );
+    short(
+        "copy_in middle",
+        |p| pool::copy(p, 1, b"01234567", 3, 2),
+        b"a34def",
+    );
+    short(
+        "copy_in all",
+        |p| pool::copy(p, 0, b"01234567", 2, 6),
+        b"234567",
+    );
+}
+
+// Out of it. By hand, as `copies_in`.
+fn copies_out() {
+    short(
+        "copy_out nothing",
+        |p| pool::copy(p, 6, b"01234567", 8, 0),
+        b"abcdef",
+    );
+    short(
+        "copy_out first byte",
+        |p| pool::copy(p, 0, b"01234567", 0, 1),
+        b"0bcdef",
+    );
+    short(
+        "copy_out last byte",
+        |p| pool::copy(p, 5, b"01234567", 7, 1),
+        b"abcde7",
+    );
+    short(
+        "copy_out middle",
+        |p| pool::copy(p, 3, b"01234567", 5, 2),
+        b"abc56f",
+    );
+    short(
+        "copy_out all",
+        |p| pool::copy(p, 0, b"01234567", 0, 6),
+        b"012345",
+    );
 }
 
 fn copies_within() {
-    copy_within("copy_within nothing", 6, 0, 0, b"abcdef");
-    copy_within("copy_within to higher", 4, 0, 2, b"abcdab");
-    copy_within("copy_within to lower", 0, 5, 1, b"fbcdef");
-    copy_within("copy_within touching, to higher", 3, 0, 3, b"abcabc");
-    copy_within("copy_within touching, to lower", 0, 3, 3, b"defdef");
-    copy_within("copy_within overlapping, to lower", 0, 1, 5, b"bcdeff");
+    short(
+        "copy_within nothing",
+        |p| pool::copy_within(p, 6, 0, 0),
+        b"abcdef",
+    );
+    short(
+        "copy_within to higher",
+        |p| pool::copy_within(p, 4, 0, 2),
+        b"abcdab",
+    );
+    short(
+        "copy_within to lower",
+        |p| pool::copy_within(p, 0, 5, 1),
+        b"fbcdef",
+    );
+    short(
+        "copy_within touching, to higher",
+        |p| pool::copy_within(p, 3, 0, 3),
+        b"abcabc",
+    );
+    short(
+        "copy_within touching, to lower",
+        |p| pool::copy_within(p, 0, 3, 3),
+        b"defdef",
+    );
+    short(
+        "copy_within overlapping, to lower",
+        |p| pool::copy_within(p, 0, 1, 5),
+        b"bcdeff",
+    );
 }
 
 fn moves_within() {
-    move_within("move_within nothing", 6, 6, 0, b"abcdef");
-    move_within("move_within overlapping, to higher", 2, 0, 4, b"ababcd");
-    move_within("move_within overlapping, to lower", 0, 2, 4, b"cdefef");
-    move_within("move_within in place", 1, 1, 5, b"abcdef");
+    short(
+        "move_within nothing",
+        |p| pool::move_within(p, 6, 6, 0),
+        b"abcdef",
+    );
+    short(
+        "move_within overlapping, to higher",
+        |p| pool::move_within(p, 2, 0, 4),
+        b"ababcd",
+    );
+    short(
+        "move_within overlapping, to lower",
+        |p| pool::move_within(p, 0, 2, 4),
+        b"cdefef",
+    );
+    short(
+        "move_within in place",
+        |p| pool::move_within(p, 1, 1, 5),
+        b"abcdef",
+    );
 }
 
 // ---- more bytes than a page has
@@ -157,30 +219,39 @@ fn frames_are(name: &str, p: &[u8], want: &[u8; 3]) {
     );
 }
 
-fn copy_frame(name: &str, to: usize, from: usize, want: &[u8; 3])
-    requires { (to < 3) × (from < 3) }
+// What a function makes of them.
+fn framed<F: FnOnce(&mut [u8; 12288])>(name: &str, call: F, want: &[u8; 3])
+    requires { F.IsAlwaysCallable call }
 {
     let mut p = three();
-    pool::copy_frame(&mut p, to, from);
-    frames_are(name, &p, want);
-}
-
-fn zero_frame(name: &str, f: usize, want: &[u8; 3])
-    requires { f < 3 }
-{
-    let mut p = three();
-    pool::zero_frame(&mut p, f);
+    call(&mut p);
     frames_are(name, &p, want);
 }
 
 fn frames() {
-    copy_frame("copy_frame first to last", 2, 0, &[1, 2, 1]);
-    copy_frame("copy_frame last to first", 0, 2, &[3, 2, 3]);
-    copy_frame("copy_frame to the next", 1, 0, &[1, 1, 3]);
-    copy_frame("copy_frame to itself", 1, 1, &[1, 2, 3]);
-    zero_frame("zero_frame first", 0, &[0, 2, 3]);
-    zero_frame("zero_frame middle", 1, &[1, 0, 3]);
-    zero_frame("zero_frame last", 2, &[1, 2, 0]);
+    framed(
+        "copy_frame first to last",
+        |p| pool::copy_frame(p, 2, 0),
+        &[1, 2, 1],
+    );
+    framed(
+        "copy_frame last to first",
+        |p| pool::copy_frame(p, 0, 2),
+        &[3, 2, 3],
+    );
+    framed(
+        "copy_frame to the next",
+        |p| pool::copy_frame(p, 1, 0),
+        &[1, 1, 3],
+    );
+    framed(
+        "copy_frame to itself",
+        |p| pool::copy_frame(p, 1, 1),
+        &[1, 2, 3],
+    );
+    framed("zero_frame first", |p| pool::zero_frame(p, 0), &[0, 2, 3]);
+    framed("zero_frame middle", |p| pool::zero_frame(p, 1), &[1, 0, 3]);
+    framed("zero_frame last", |p| pool::zero_frame(p, 2), &[1, 2, 0]);
 }
 
 // ---- what is shown, of a pool that is read and of one that is written
@@ -216,10 +287,11 @@ fn show_stored() {
     report("show and store", got == [1, 7, 2, 2, 8, 3]);
 }
 
-// The parts, one after another. By hand: a table of them would be one of function pointers.
+// The parts, one after another. By hand: a table of functions and a loop over it say no more than the calls.
 fn main() {
     fills();
-    copies();
+    copies_in();
+    copies_out();
     copies_within();
     moves_within();
     in_page();

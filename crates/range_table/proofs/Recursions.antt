@@ -1,7 +1,8 @@
 -- The recursions over the ranges of a book, in the words of the iterators that compute them.
 use Rattle.std.specs.Prelude.{◌≡◌, ◌||◌, List, [], ◌∷◌, ℕ, suc, ◌+◌, eqb, cond, count_by}
 use Rattle.std.specs.List.{list_any}
-use Rattle.std.proofs.Common.{refl, true, false, ap, arith}
+use Rattle.std.specs.Bool.{then_some}
+use Rattle.std.proofs.Common.{Some, None, refl, true, false, ap, arith}
 use Rattle.std.proofs.Math.Bool.{Bool}
 use Rattle.std.proofs.lemmas.List.Recursion.{is_count_by}
 use Rattle.lists.specs.Test.{pick}
@@ -23,3 +24,7 @@ pub named_any : (b i : ℕ) (l : List PageRange) → named b i (ranges_of l) ≡
 unfolding named ranges_of
 named_any b i [] = refl
 named_any b i (r ∷ l) = ap (λ t. window b i (range_of r) || t) (named_any b i l)
+
+pub picked_some : (t : Bool) (k : ℕ) → then_some t k ≡ pick t (Some k) None
+picked_some true k = refl
+picked_some false k = refl

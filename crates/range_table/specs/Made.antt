@@ -1,5 +1,5 @@
 -- A range put over its span and pages cut out, from the two searches, the parts and the rows written.
-use Rattle.std.specs.Prelude.{◌≡◌, refl, ℕ, ◌+◌, ◌-◌, ◌≤◌, ◌<◌, length, Option, Some, None}
+use Rattle.std.specs.Prelude.{◌≡◌, refl, ℕ, ◌+◌, ◌-◌, ◌*◌, ◌≤◌, ◌<◌, length, Option, Some, None}
 use Rattle.std.proofs.Common.{ap, ap₂, ◌∙◌, arith, length-append}
 use mathlib.Core.List.{List, [], ◌∷◌, ◌++◌, append_assoc}
 use Rattle.ranges.specs.Range.{carve, from, upto, front, back}
@@ -7,6 +7,7 @@ use Rattle.ranges.specs.Search.{starts_before, ends_by, ends_few}
 use Rattle.table.specs.declared.PageRange.{PageRange}
 use Rattle.table.specs.Table.{Table, Small, ranged, ranged_of, zero_range, parts_of}
 use Rattle.table.specs.Searching.{used_length}
+use Rattle.lists.specs.Test.{by-lt}
 use Rattle.edit.specs.declared.RangeTable.{RangeTable}
 use Rattle.edit.specs.Edit.{spliced, put_table, cut_table}
 use Rattle.edit.specs.Edits.{cut_met, cut_none, cut_room, met_order, put_met, put_none}
@@ -15,8 +16,8 @@ use Rattle.store.specs.declared.Store.{Store}
 use Rattle.store.specs.Abs.{used}
 use Rattle.store.specs.Ranges.{cut_rest, put_rest}
 use Rattle.store.specs.With.{range_at, with_range, with_ranges}
-use Rattle.range_table.specs.Shift.{Opened, laid, laid_more, laid_none, laid_one, open_same, spliced_laid}
-use Rattle.range_table.specs.Edit.{Blank, CutIs, PutIs, Shifted, made_of, parts_made, rows_of, with_rows, with_table}
+use Rattle.range_table.specs.Shift.{Opened, laid, laid_more, laid_none, laid_one, spliced_laid}
+use Rattle.range_table.specs.Edit.{CutIs, PutIs, Shifted, made_of, parts_made, rows_of, with_rows, with_table}
 
 -- ---- a part as a row
 pub lay_none : (s : Store) (at : ℕ) (q : Option PageRange) → q ≡ None → s ≡ with_rows at (rows_of q) s
@@ -54,15 +55,6 @@ replaced s p q x y z b m a t u v w few pq qc room ex ey ez S eu ev ew =
     ∙ ap (λ (o : Store). with_ranges (spliced s.ranges s.count p (q - p) (made_of b m a)) o) S.same
     ∙ ap (λ k. with_table (record { ranges = spliced s.ranges s.count p (q - p) (made_of b m a); count = k }) s) c
 
--- nothing written where nothing was
-unspliced : (s : Store) (p : ℕ) → length s.ranges ≡ 512 → s.count ≤ 512 → p ≤ s.count → Blank s → s.ranges ≡ spliced s.ranges s.count p 0 []
-unspliced s p full few inside blank =
-    let z : p - p ≡ 0 = omega arith in
-    let y : p ≡ p + 0 = omega arith in
-    laid_none s.ranges p
-    ∙ spliced_laid s.ranges s.ranges [] s.count p p full few (omega arith) inside (omega arith) (open_same s.ranges s.count p (p + 0) full few inside blank y)
-    ∙ ap (λ k. spliced s.ranges s.count p k []) z
-
 made_ranged : (before : Option PageRange) (n : PageRange) (after : Option PageRange) → ranged_of (parts_made before (Some n) after) ≡ parts_of before ++ (ranged n ∷ parts_of after)
 unfolding ranged_of
 made_ranged None n None = refl
@@ -86,16 +78,18 @@ one_row (Some r) = omega arith
 abbrev pub spliced_in : Store → ℕ → ℕ → List PageRange → Store
 spliced_in s p k new = with_table (record { ranges = spliced s.ranges s.count p k new; count = s.count + length new - k }) s
 
--- one row put in as row p
-pub inserted : (s : Store) (p : ℕ) (n : PageRange) (t u : Store) → p ≤ s.count → s.count + 1 ≤ 512 → Shifted s p (p + 1) t
-    → u ≡ with_range p n t → u ≡ spliced_in s p (p - p) (n ∷ [])
-inserted s p n t u inside room S e =
-    let f : length t.ranges ≡ 512 = S.rows.full in
-    let c : t.count ≡ s.count + 1 - (p - p) = S.count ∙ omega arith in
-    e
-    ∙ ap (λ l. with_ranges l t) (laid_one t.ranges p n (omega arith) ∙ spliced_laid s.ranges t.ranges (n ∷ []) s.count p p S.full (omega arith) (omega arith) inside (omega arith) S.rows)
-    ∙ ap (λ (o : Store). with_ranges (spliced s.ranges s.count p (p - p) (n ∷ [])) o) S.same
-    ∙ ap (λ k. with_table (record { ranges = spliced s.ranges s.count p (p - p) (n ∷ []); count = k }) s) c
+-- the rows that the pages from a up to e meet, from `first` up to `last`, replaced by what is left of them, with `middle` in between
+pub record Spliced (a e : ℕ) (middle : Option PageRange) (s t : Store) : Type 0 where
+  pub first : ℕ
+  pub last : ℕ
+  pub is_first : first ≡ ends_by a (ranged_of (used s))
+  pub is_last : last ≡ starts_before e (ranged_of (used s))
+  pub before : Option PageRange
+  pub after : Option PageRange
+  pub is_before : first < last → parts_of before ≡ front a (ranged (range_at s first))
+  pub is_after : first < last → parts_of after ≡ back e (ranged (range_at s (last - 1)))
+  pub over : first < last → t ≡ spliced_in s first (last - first) (parts_made before middle after)
+  pub between : last ≤ first → t ≡ spliced_in s first (first - first) (parts_made None middle None)
 
 -- ---- the rows that the pages from a up to e meet: those from p up to q
 module _ (s : Store) (T : Table s.ranges s.count) (a e p q : ℕ) (h : a < e) (ep : p ≡ ends_by a (ranged_of (used s)))
@@ -168,8 +162,31 @@ module _ (s : Store) (T : Table s.ranges s.count) where
           cut_made t (y ∙ ap (λ (r : RangeTable). with_table r s)
           (cut_met s.ranges s.count T a e p q h ep eq (parts_made before None after) _ _ _ (parts_of before) (parts_of after) k refl (both_ranged before after) ex ey refl refl))
 
-    pub cut_nothing : Blank s → q ≤ p → CutIs a e s s
-    cut_nothing blank k =
-        cut_made s (ap (λ (r : RangeTable). with_table r s)
-        (cut_none s.ranges s.count T a e p q h ep eq [] s.ranges k (both_ranged None None)
-        (unspliced s p T.full T.few (omega (arith, met_order s.ranges s.count T a e p q h ep eq)) blank)))
+    cut_nothing : (t : Store) → q ≤ p → t ≡ spliced_in s p (p - p) [] → CutIs a e s t
+    cut_nothing t k y =
+        let z : p - p ≡ 0 = omega arith in
+        let c : s.count + 0 - 0 ≡ s.count = omega arith in
+        let x : t ≡ spliced_in s p 0 [] = rw z at y in
+        cut_made t (x ∙ ap (λ (n : ℕ). with_table (record { ranges = spliced s.ranges s.count p 0 []; count = n }) s) c ∙ ap (λ (r : RangeTable). with_table r s)
+        (cut_none s.ranges s.count T a e p q h ep eq [] _ k (both_ranged None None) refl))
+
+  -- ---- both by the one splice
+  pub splice_fits : (a e : ℕ) → a < e → (middle : Option PageRange) → length (carve a e (ranged_of (used s))) ≤ 512 → s.count + 2 * length (rows_of middle) ≤ 512
+      → (p q : ℕ) → p ≡ ends_by a (ranged_of (used s)) → q ≡ starts_before e (ranged_of (used s)) → p < q → (before after : Option PageRange)
+      → parts_of before ≡ front a (ranged (range_at s p)) → parts_of after ≡ back e (ranged (range_at s (q - 1)))
+      → s.count + length (parts_made before middle after) ≤ 512 + (q - p)
+  splice_fits a e h None room few p q ep eq k before after eb ea = cut_fits a e h room p q ep eq _ _ before after k refl refl eb ea
+  splice_fits a e h (Some n) room few p q ep eq k before after eb ea =
+      omega (arith, made_length (rows_of before) (rows_of (Some n)) (rows_of after), one_row before, one_row after)
+
+  pub put_spliced : (n : PageRange) → Small n → 0 < n.length → s.count + 2 ≤ 512 → (a e : ℕ) → a ≡ from (ranged n) → e ≡ upto (ranged n) → (t : Store) → Spliced a e (Some n) s t → PutIs n s t
+  put_spliced n S h room a e ea ee t P =
+      by-lt P.first P.last
+      (λ k. put_over n S h room a e P.first P.last ea ee P.is_first P.is_last _ _ P.before P.after t k refl refl (P.is_before k) (P.is_after k) (P.over k))
+      (λ k. put_between n S h room a e P.first P.last ea ee P.is_first P.is_last t k (P.between k))
+
+  pub cut_spliced : (a e : ℕ) → a < e → length (carve a e (ranged_of (used s))) ≤ 512 → (t : Store) → Spliced a e None s t → CutIs a e s t
+  cut_spliced a e h room t P =
+      by-lt P.first P.last
+      (λ k. cut_over a e h room P.first P.last P.is_first P.is_last _ _ P.before P.after k refl refl (P.is_before k) (P.is_after k) t (P.over k))
+      (λ k. cut_nothing a e h room P.first P.last P.is_first P.is_last t k (P.between k))

@@ -1,15 +1,16 @@
-// THE TABLE OF RANGES OF A STORE: the searches in it, and a range put over its span or pages cut out of it, in place. By hand: some ask for
-// a table in order, and some for a bound of its count alone: a type for both would ask more.
+// THE TABLE OF RANGES OF A STORE: the searches in it, and a range put over its span or pages cut out of it, in place.
+// By hand: `Table s.ranges s.count` stands in seven contracts and `Blank s` in five. Who calls holds a `&mut Store`, changed between two calls, so that a type with both as ghost
+// fields would be made anew for each; and it would ask a table in order of `shift` and `replace`, which ask none, and promise one of `splice`, which leaves none.
 #![tactic(auto)]
 
-ghost use Rattle.std.specs.Prelude.{◌≡◌, [], ◌+◌, ◌-◌, ◌^◌, ◌≤◌, ◌<◌, length};
+ghost use Rattle.std.specs.Prelude.{◌≡◌, suc, [], ◌+◌, ◌-◌, ◌*◌, ◌^◌, ◌≤◌, ◌<◌, length};
 ghost use Rattle.ranges.specs.Range.{carve};
 ghost use Rattle.ranges.specs.Search.{starts_before, ends_by};
 ghost use Rattle.ranges.specs.Table.{holders, fresh, named};
-ghost use Rattle.table.specs.Table.{covering_at, ranged_of, ranges_of, Small, Table};
+ghost use Rattle.table.specs.Table.{covering_at, less_one, ranged_of, ranges_of, Small, Table};
 ghost use Rattle.store.specs.Abs.{used};
 ghost use Rattle.range_table.specs.Edit.{Blank, CutIs, PutIs, Shifted, parts_made, rows_of, with_rows};
-ghost use Rattle.range_table.specs.Made.{spliced_in};
+ghost use Rattle.range_table.specs.Made.{Spliced, spliced_in};
 ghost use Rattle.range_table.specs.Rows.{Held};
 
 use store::Store;
@@ -20,18 +21,15 @@ pub fn starts_before(s: &Store, g: usize) -> usize
     requires { Table s.now.ranges s.now.count }
     ensures { result ≡ starts_before g (ranged_of (used s.now)) }
 {
-    // by hand: `partition_point` asks for a closure that may be called at any range, and `first` asks for a small one
-    let mut low: usize = 0;
-    let mut high = s.count;
-    while low < high {
-        let middle = low + (high - low) / 2;
-        if s.ranges[middle].first() < g {
-            low = middle + 1;
-        } else {
-            high = middle;
-        }
-    }
-    low
+    s.used().partition_point(|r| r.first() < g)
+}
+
+// The place of the last range that begins at page g of the line or before it.
+pub fn last_by(s: &Store, g: usize) -> Option<usize>
+    requires { Table s.now.ranges s.now.count }
+    ensures { result ≡ less_one (starts_before (suc g) (ranged_of (used s.now))) }
+{
+    s.used().partition_point(|r| r.first() <= g).checked_sub(1)
 }
 
 // How many of the first ranges end by page a of the line.
@@ -40,41 +38,33 @@ pub fn ends_by(s: &Store, a: usize) -> usize
     ensures { result ≡ ends_by a (ranged_of (used s.now)) }
 {
     let n = starts_before(s, a);
-    if 0 < n && a < s.ranges[n - 1].end() {
-        return n - 1;
+    match n.checked_sub(1) {
+        Some(k) if a < s.ranges[k].end() => k,
+        _ => n,
     }
-    n
 }
 
 // The place of the range that covers page g of the line.
 pub fn covering(s: &Store, g: usize) -> Option<usize>
-    requires { (Table s.now.ranges s.now.count) × (g + 1 < 2 ^ 64) }
+    requires { Table s.now.ranges s.now.count }
     ensures { result ≡ covering_at g (ranged_of (used s.now)) }
 {
-    let n = starts_before(s, g + 1);
-    if 0 < n && g < s.ranges[n - 1].end() {
-        return Some(n - 1);
-    }
-    None
+    let k = last_by(s, g)?;
+    (g < s.ranges[k].end()).then_some(k)
 }
 
 // How many ranges hold a backing.
 pub fn holder_count(s: &Store, b: u32) -> usize
-    requires { s.now.count ≤ 512 }
     ensures { result ≡ holders b (ranges_of (used s.now)) }
 {
-    s.ranges[..s.count]
-        .iter()
-        .filter(|r| r.backing.number() == b)
-        .count()
+    s.used().iter().filter(|r| r.backing.number() == b).count()
 }
 
 // Whether index i of backing b lies in the window of some range.
 pub fn has_window(s: &Store, b: u32, i: u32) -> bool
-    requires { s.now.count ≤ 512 }
     ensures { result ≡ named b i (ranges_of (used s.now)) }
 {
-    s.ranges[..s.count].iter().any(|r| r.in_window(b, i))
+    s.used().iter().any(|r| r.in_window(b, i))
 }
 
 // The numbers up to 512 that a range holds are marked; none is before.
@@ -83,8 +73,9 @@ fn mark(ranges: &[PageRange], held: &mut [bool; 513])
     ensures { Held (ranges_of ranges.now) held.new }
 {
     for r in ranges {
+        // by hand: tried, but of an element that `get_mut` lends a proof does not learn what is written
         let b = r.backing.number() as usize;
-        if b < 513 {
+        if b < held.len() {
             held[b] = true;
         }
     }
@@ -92,17 +83,13 @@ fn mark(ranges: &[PageRange], held: &mut [bool; 513])
 
 // The smallest positive number that no range holds.
 pub fn fresh_number(s: &Store) -> u32
-    requires { s.now.count ≤ 512 }
     ensures { result ≡ fresh (ranges_of (used s.now)) }
 {
+    let ranges = s.used();
+    let n = ranges.len();
     let mut held = [false; 513];
-    mark(&s.ranges[..s.count], &mut held);
-    for n in 1..s.count + 1 {
-        if !held[n] {
-            return n as u32;
-        }
-    }
-    s.count as u32 + 1
+    mark(ranges, &mut held);
+    1 + held[1..n + 1].iter().position(|h| !h).unwrap_or(n) as u32
 }
 
 // The rows from `from` on moved to `to`; the slots that are then unused are zero.
@@ -123,10 +110,10 @@ pub fn shift(s: &mut Store, from: usize, to: usize)
 fn width(q: Option<PageRange>) -> usize
     ensures { result ≡ length (rows_of q) }
 {
-    q.is_some() as usize
+    usize::from(q.is_some())
 }
 
-// A part written as row `at`, if it is one.
+// A part written as row `at`, if it is one. By hand: there are three at most, each there or not; an array of those that are there would be filled by the same three questions.
 fn lay(s: &mut Store, at: usize, q: Option<PageRange>)
     requires { at + length (rows_of q) ≤ 512 }
     ensures { s.new ≡ with_rows at (rows_of q) s.old }
@@ -158,23 +145,30 @@ fn replace(
     lay(s, p + x + y, after);
 }
 
+// The rows that the pages from a up to e of the line meet replaced by what is left of them, with `middle` in between.
+fn splice(s: &mut Store, a: usize, e: usize, middle: Option<PageRange>)
+    requires table { (Table s.old.ranges s.old.count) × (Blank s.old) }
+    requires room { (a < e) × (length (carve a e (ranged_of (used s.old))) ≤ 512) × (s.old.count + 2 * length (rows_of middle) ≤ 512) }
+    ensures { Spliced a e middle s.old s.new }
+{
+    let p = ends_by(s, a);
+    let q = starts_before(s, e);
+    if q <= p {
+        replace(s, p, p, None, middle, None);
+        return;
+    }
+    let before = s.ranges[p].front(a);
+    let after = s.ranges[q - 1].back(e);
+    replace(s, p, q, before, middle, after);
+}
+
 // A range put over its span, whatever was there.
 pub fn put_range(s: &mut Store, n: PageRange)
     requires table { (Table s.old.ranges s.old.count) × (Blank s.old) }
     requires small { (Small n) × (0 < n.length) × (s.old.count + 2 ≤ 512) }
     ensures { PutIs n s.old s.new }
 {
-    let (a, e) = (n.first(), n.end());
-    let p = ends_by(s, a);
-    let q = starts_before(s, e);
-    if p < q {
-        let before = s.ranges[p].front(a);
-        let after = (s.ranges[q - 1]).back(e);
-        replace(s, p, q, before, Some(n), after);
-        return;
-    }
-    shift(s, p, p + 1);
-    s.ranges[p] = n;
+    splice(s, n.first(), n.end(), Some(n));
 }
 
 // The pages from a up to e of the line cut out.
@@ -183,11 +177,5 @@ pub fn cut_range(s: &mut Store, a: usize, e: usize)
     requires span { (a < e) × (length (carve a e (ranged_of (used s.old))) ≤ 512) }
     ensures { CutIs a e s.old s.new }
 {
-    let p = ends_by(s, a);
-    let q = starts_before(s, e);
-    if p < q {
-        let before = s.ranges[p].front(a);
-        let after = (s.ranges[q - 1]).back(e);
-        replace(s, p, q, before, None, after);
-    }
+    splice(s, a, e, None);
 }

@@ -1,7 +1,8 @@
 -- Ranges of one backing are in one chain, so that a range is compared with those of its chain only, and with those before it only.
 use Rattle.std.specs.Prelude.{◌≡◌, refl, Bool, true, false, List, ℕ, zero, suc, ◌+◌, ◌%◌, ◌≤◌, ◌<◌, eqb, get_or, length, take}
-use Rattle.std.proofs.Common.{sym, ap, ◌∙◌, add-one, arith, ne_eqb}
+use Rattle.std.proofs.Common.{sym, ap, ◌∙◌, add-one, arith, get_or-take, ne_eqb}
 use Rattle.std.proofs.lemmas.Bool.{false≢true, eqb-false}
+use Rattle.std.proofs.lemmas.List.{length-take}
 use Rattle.table.specs.declared.PageRange.{PageRange}
 use Rattle.table.specs.declared.BackingPages.{BackingPages}
 use Rattle.table.specs.declared.BackingPages.TheVariants.{Nothing, Single, Many}
@@ -38,6 +39,14 @@ module _ {A : Type 0} (P : A → Bool) (l : List A) (z : A) where
       by-test (all_below Q n)
       (λ h. h ∙ sym (every_from n m (λ k b. sym (e k b) ∙ below_at Q n h k b)))
       (λ h. h ∙ sym (by-test (every P (take n l)) (λ g. absurd (false≢true (sym h ∙ at_below Q n (λ k b. e k b ∙ every_at n m g k b)))) (λ g. g)))
+
+-- range i of the first n
+module _ (l : List PageRange) (n i : ℕ) (h : i < length (take n l)) where
+  pub used_low : i < n
+  used_low = omega (arith, h, length-take n l)
+
+  pub used_at : get_or (take n l) i zero_range ≡ get_or l i zero_range
+  used_at = get_or-take n l i zero_range used_low
 
 module _ (l : List PageRange) (n : ℕ) (m : n ≤ length l) where
   -- all ranges agree with all

@@ -1,11 +1,11 @@
 // The tests of the table of ranges that store/specs/Sound.antt has. Any store may come in: no sum here is too large.
 #![tactic(auto)]
 
-ghost use Rattle.std.specs.Prelude.{◌≡◌, true, ◌&&◌, ◌+◌, ◌≤◌, ◌<◌, leb, length, replicate};
+ghost use Rattle.std.specs.Prelude.{◌≡◌, true, ◌&&◌, ◌+◌, ◌≤◌, ◌<◌, leb, length};
 ghost use Rattle.std.specs.List.{list_all};
 ghost use Rattle.lists.specs.Every.{all_below};
 ghost use Rattle.chains.specs.Chains.{Linked};
-ghost use Rattle.charts.specs.Charts.{chain_by, RangeChains};
+ghost use Rattle.charts.specs.Charts.{chain_by, Empty, RangeChains};
 ghost use Rattle.range_tests.specs.Agree.{alike_to};
 ghost use Rattle.range_tests.specs.Fit.{fitting?, fitting_at};
 ghost use Rattle.range_tests.specs.Shape.{follows?, rises?};
@@ -87,7 +87,7 @@ fn fits(r: &PageRange) -> bool
     match r.backing {
         BackingPages::Nothing => false,
         BackingPages::Single(b) => 0 < b && r.length == 1 && r.offset == 0,
-        BackingPages::Many(b) => 0 < b && r.offset as u64 + r.length as u64 <= 1048576,
+        BackingPages::Many(b) => 0 < b && u64::from(r.offset) + u64::from(r.length) <= 1048576,
     }
 }
 
@@ -110,17 +110,14 @@ fn agrees(s: &Store, chains: &Chains, i: usize) -> bool
     ensures { result ≡ all_below (alike_to s.now.ranges i) i }
 {
     let backing = s.ranges[i].backing;
-    let mut link = chains.next[i] as usize;
-    // by hand: a chain is of indices, since memory is fixed
-    while 0 < link {
-        let met = s.ranges[link - 1].backing;
+    for j in chains.before(i) {
+        let met = s.ranges[j].backing;
         if met == backing {
             return true;
         }
         if !same_kind(met, backing) {
             return false;
         }
-        link = chains.next[link - 1] as usize;
     }
     true
 }
@@ -129,12 +126,11 @@ fn agrees(s: &Store, chains: &Chains, i: usize) -> bool
 // before it.
 pub fn chain_ranges(s: &Store, chains: &mut Chains) -> bool
     requires few { s.now.count ≤ 512 }
-    requires empty { (chains.old.heads ≡ replicate 1024 0) × (chains.old.next ≡ replicate 1024 0) }
+    requires empty { Empty chains.old }
     ensures answer { result ≡ (all_below (fitting_at s.now.ranges) s.now.count && all_below (λ i. all_below (alike_to s.now.ranges i) i) s.now.count) }
     ensures chained { result ≡ true → RangeChains s.now.ranges s.now.count chains.new }
 {
-    for i in 0..s.count {
-        let r = &s.ranges[i];
+    for (i, r) in s.ranges[..s.count].iter().enumerate() {
         if !fits(r) {
             return false;
         }

@@ -1,5 +1,5 @@
 -- The way into a call: what the examination of a store tells it.
-use Rattle.std.specs.Prelude.{◌≡◌, refl, true, false, not, List, [], ◌∷◌, ℕ, Result, Ok, Err, OnOk}
+use Rattle.std.specs.Prelude.{◌≡◌, refl, true, false, not, List, [], ◌∷◌, ℕ, Result, Ok, Err, IfOk, IsOkAnd}
 use Rattle.std.proofs.Common.{sym, ◌∙◌, arith}
 use Rattle.store.specs.declared.Store.{Store}
 use Rattle.charts.specs.declared.Charts.{Charts}
@@ -34,19 +34,19 @@ pub counts_none : (s : Store) → sound? s ≡ true → (x : List ℕ) → 0 ≡
 unfolding lowest table
 counts_none s h x = rw h
 
--- what the examination of store s tells the call, whose answer is r: row 1 of the table, and that a sound store is entered
-pub record Tried {T : Type 0} (s : Store) (r : Result T Refusal) (c : Charts) : Type 0 where
+-- what the examination of store s tells the call, whose answer is r: row 1 of the table, and that a sound store is entered, with the charts that the answer has
+pub record Tried {T : Type 0} (s : Store) (r : Result T Refusal) (c : T → Charts) : Type 0 where
   pub number : number_of r ≡ lowest ((not (sound? s), 1) ∷ [])
   pub sized : Sized s
-  pub enters : OnOk r (Entered s c)
+  pub enters : IfOk r (λ y. Entered s (c y))
 
 -- so a store that is not sound is refused whatever the call is
-pub tried_refuses : {T : Type 0} {s : Store} {e : Refusal} {c : Charts} → Tried {T = T} s (Err e) c → (x : List ℕ) (call : Call) → number e ≡ refusal s x call
+pub tried_refuses : {T : Type 0} {s : Store} {e : Refusal} {c : T → Charts} → Tried {T = T} s (Err e) c → (x : List ℕ) (call : Call) → number e ≡ refusal s x call
 tried_refuses {T} {s} {e} {c} t x call = decides _ (number e) (row_refuses (not (sound? s)) 1 e t.number)
 
 -- from the test of soundness
-module _ {T : Type 0} (s : Store) (c : Charts) (Z : Sized s) where
-  pub tried_sound : (y : T) → true ≡ sound? s → RangeChains s.ranges s.count c.ranges → FrameChains s.places s.frames c.frames → Tried {T = T} s (Ok y) c
+module _ {T : Type 0} (s : Store) (c : T → Charts) (Z : Sized s) where
+  pub tried_sound : (y : T) → true ≡ sound? s → RangeChains s.ranges s.count (c y).ranges → FrameChains s.places s.frames (c y).frames → Tried {T = T} s (Ok y) c
   unfolding lowest
   tried_sound y e R F = record {
     number = rw (← e);
@@ -74,13 +74,13 @@ module _ {T : Type 0} (s : Store) (x : List ℕ) (call : Call) where
   verdict_sound y e = e
 
   -- the number is the refusal of the store that was examined
-  pub refuses : (r : Result T Refusal) {c : Charts} {k : ℕ} → Tried s r c → k ≡ verdict r s x call → k ≡ refusal s x call
+  pub refuses : (r : Result T Refusal) {c : T → Charts} {k : ℕ} → Tried s r c → k ≡ verdict r s x call → k ≡ refusal s x call
   unfolding verdict
   refuses (Ok y) t e = e
   refuses (Err f) t e = e ∙ tried_refuses t x call
 
   -- a call that is not refused has a sound store
-  pub accepted : (r : Result T Refusal) {c : Charts} {k : ℕ} → Tried s r c → k ≡ verdict r s x call → k ≡ 0 → Entered s c
+  pub accepted : (r : Result T Refusal) {c : T → Charts} {k : ℕ} → Tried s r c → k ≡ verdict r s x call → k ≡ 0 → IsOkAnd r (λ y. Entered s (c y))
   unfolding verdict
   accepted (Ok y) t e z = t.enters
   accepted (Err f) t e z = absurd (omega (arith, number_positive f))

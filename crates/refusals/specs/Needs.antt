@@ -1,12 +1,13 @@
 -- What a call needs, counted on the store: the pages that are absent or shared, the free frames, the free slots.
-use Rattle.std.specs.Prelude.{◌≡◌, refl, List, [], ◌∷◌, ℕ, suc, ◌+◌, ◌-◌, ◌*◌, ◌/◌, ◌≤◌, ◌<◌, min, ltb, length}
-use Rattle.std.proofs.Common.{ap, ◌∙◌, arith, eq-eqb, ne_eqb, lt-ltb}
+use Rattle.std.specs.Prelude.{◌≡◌, Bool, List, [], ◌∷◌, ℕ, suc, ◌+◌, ◌-◌, ◌*◌, ◌/◌, ◌≤◌, ◌<◌, min, ltb, length}
+use Rattle.std.proofs.Common.{ap, arith, eq-eqb, ne_eqb, lt-ltb}
+use Rattle.std.specs.Int.{from_bool}
 use Rattle.store.specs.declared.Store.{Store}
 use Rattle.lists.specs.Test.{by-eq, by-lt}
 use Rattle.ranges.specs.Range.{line}
 use Rattle.book.specs.Work.{Work}
 use Rattle.book.specs.Page.{touched}
-use Rattle.book.specs.Need.{State, absent, private, shared, state_of, lacks, common, wants, wanted, counted, needing}
+use Rattle.book.specs.Need.{State, state_of, lacks, wants, wanted, counted, needing}
 use Rattle.book.specs.Book.{entry, lacking, lowest}
 use Rattle.frames.specs.Free.{Counted}
 use Rattle.table.specs.Table.{Table}
@@ -15,30 +16,18 @@ use Rattle.store.specs.Sound.{Sized, Sound}
 use Rattle.store.specs.Edits.{length_cells}
 use Rattle.store.specs.Good.{book_count}
 use Rattle.store.specs.Spare.{sound_count, entry_work, work_of}
+use Rattle.look.specs.declared.State as look
 use Rattle.look.specs.Look.{located, seen}
 use Rattle.look.specs.Found.{state_is, state_located}
 use Rattle.refusals.specs.Refuse.{Row, decides}
 
--- the frames that a page wants: one if it is shared, k if it is absent: 1 where it is written, 0 where it is cleared
-abbrev pub frames : ℕ → State → ℕ
-frames k absent = k
-frames k private = 0
-frames k shared = 1
+-- a test of a page's state, with the answers `post`, says whether the page wants a frame, as `each` counts it
+abbrev pub Counts : (look.State → Bool → Type 0) → (State → ℕ) → Type 0
+Counts post each = (t : look.State) (b : Bool) → post t b → from_bool b ≡ each (state_is t)
 
--- where it is written: "absent or shared"; where it is cleared: "present and shared"
-pub frames_lacks : (t : State) → frames 1 t ≡ lacks t
-frames_lacks absent = refl
-frames_lacks private = refl
-frames_lacks shared = refl
-
-pub frames_common : (t : State) → frames 0 t ≡ common t
-frames_common absent = refl
-frames_common private = refl
-frames_common shared = refl
-
--- of page g of the line, as the store has it
-abbrev pub frames_at : ℕ → Store → ℕ → ℕ
-frames_at k s g = frames k (state_is (seen s (located s g)))
+-- the frames that page g of the line wants, as the store has it
+abbrev pub frames_at : (State → ℕ) → Store → ℕ → ℕ
+frames_at each s g = each (state_is (seen s (located s g)))
 
 -- A count that stops as soon as it is above a limit: r is the whole count, or both are above the limit.
 pub record Upto (limit all r : ℕ) : Type 0 where
@@ -66,13 +55,13 @@ touched_inside y m h = by-eq m 0 (λ e. rw (eq-eqb m 0 e) (omega arith)) (λ e. 
 
 module _ (s : Store) where
   -- a page counts on the store as it does in the book
-  pub frames_seen : Table s.ranges s.count → s.frames ≤ length s.places → (k o p : ℕ) (x : List ℕ) → frames_at k s (line o p) ≡ frames k (state_of o p (entry (book_of s x)))
-  frames_seen T n k o p x = ap (frames k) (state_located s T n o p x)
+  pub frames_seen : Table s.ranges s.count → s.frames ≤ length s.places → (each : State → ℕ) (o p : ℕ) (x : List ℕ) → frames_at each s (line o p) ≡ each (state_of o p (entry (book_of s x)))
+  frames_seen T n each o p x = ap each (state_located s T n o p x)
 
   -- and one that is written
-  pub wants_seen : Table s.ranges s.count → s.frames ≤ length s.places → (o p : ℕ) (x : List ℕ) → frames_at 1 s (line o p) ≡ wants o p (entry (book_of s x))
+  pub wants_seen : Table s.ranges s.count → s.frames ≤ length s.places → (o p : ℕ) (x : List ℕ) → frames_at lacks s (line o p) ≡ wants o p (entry (book_of s x))
   unfolding wants
-  wants_seen T n o p x = frames_seen T n 1 o p x ∙ frames_lacks (state_of o p (entry (book_of s x)))
+  wants_seen T n o p x = frames_seen T n lacks o p x
 
   -- a write's count is that of its first pages, at most one more than there are frames
   pub counted_first : (o y m k : ℕ) → k ≡ min (touched 4096 y m) (suc s.frames) → (x : List ℕ)

@@ -15,12 +15,11 @@ use Rattle.ranges.specs.Table.{part, parts}
 use Rattle.book.specs.Page as book
 use Rattle.book.specs.Work.{Work}
 use Rattle.book.specs.Pages.{met}
-use Rattle.book.specs.Need.{state_of, wants, partly, counted_parts, needing, need_write, need_whole, need_copy, need_zero}
+use Rattle.book.specs.Need.{state_of, lacks, common, wants, partly, counted_parts, needing, need_write, need_whole, need_copy, need_zero}
 use Rattle.book.specs.Book.{entry}
 use Rattle.table.specs.Table.{Small, Table, ranged, ranges_of, zero_range}
 use Rattle.table.specs.Holding.{left}
 use Rattle.store.specs.Abs.{used, book_of}
-use Rattle.refusals.specs.Needs.{frames, frames_lacks, frames_common}
 
 -- a span of the code, as a span of the book
 abbrev pub span_is : Span → book.Span
@@ -40,12 +39,12 @@ module _ (x n : ℕ) (p : Span) (h : p.head ≡ min n ((4096 - x % 4096) % 4096)
   parts_counted each a b e f = rw (span_is_lem, e, f)
 
   -- "zeroing whole pages needs one" slot
-  pub zero_needs : (s : Store) (o f m : ℕ) (c : List ℕ) → f ≡ counted_parts (λ q. frames 0 (state_of o q (entry (book_of s c)))) 4096 x n → m ≡ min 1 p.whole
+  pub zero_needs : (s : Store) (o f m : ℕ) (c : List ℕ) → f ≡ counted_parts (λ q. common (state_of o q (entry (book_of s c)))) 4096 x n → m ≡ min 1 p.whole
       → needing f m ≡ need_zero o x n (entry (book_of s c))
   unfolding entry book_of
   zero_needs s o f m c e g =
       let w : Work = entry (book_of s c) in
-      ap₂ needing (e ∙ ap (λ each. counted_parts each 4096 x n) (λ i q. frames_common (state_of o q w) i)) (g ∙ ap (λ q. min 1 q.whole) (sym span_is_lem))
+      ap₂ needing e (g ∙ ap (λ q. min 1 q.whole) (sym span_is_lem))
 
   -- the source ranges that the whole pages meet, two slots for each
   pub whole_met : (s : Store) (o m : ℕ) → (let g : ℕ = line o ((x + p.head) / 4096) in m ≡ length (parts g (g + p.whole) (ranges_of (used s))))
@@ -55,12 +54,12 @@ module _ (x n : ℕ) (p : Span) (h : p.head ≡ min n ((4096 - x % 4096) % 4096)
 
 module _ (s : Store) (o x q y n : ℕ) (c : List ℕ) where
   -- "A copy at equal places copies its partly touched pages as bytes and shares whole pages."
-  pub equal_needs : (f m : ℕ) → x % 4096 ≡ y % 4096 → f ≡ counted_parts (λ p. frames 1 (state_of q p (entry (book_of s c)))) 4096 y n → m ≡ need_whole o x n (entry (book_of s c))
+  pub equal_needs : (f m : ℕ) → x % 4096 ≡ y % 4096 → f ≡ counted_parts (λ p. lacks (state_of q p (entry (book_of s c)))) 4096 y n → m ≡ need_whole o x n (entry (book_of s c))
       → needing f m ≡ need_copy o x q y n (entry (book_of s c))
   unfolding wants entry book_of
   equal_needs f m h e g =
       let w : Work = entry (book_of s c) in
-      rw (eq-eqb (x % 4096) (y % 4096) h) (ap₂ needing (e ∙ ap (λ each. counted_parts each 4096 y n) (λ i p. frames_lacks (state_of q p w) i)) g)
+      rw (eq-eqb (x % 4096) (y % 4096) h) (ap₂ needing e g)
 
   -- "At unequal places all is bytes"
   pub unequal_needs : (x % 4096 ≡ y % 4096 → ⊥) → need_write q y n (entry (book_of s c)) ≡ need_copy o x q y n (entry (book_of s c))

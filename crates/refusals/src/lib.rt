@@ -5,7 +5,7 @@ ghost use Rattle.std.specs.Prelude.{◌≡◌, List, [], ◌∷◌, ℕ, ◌+◌
 ghost use Rattle.book.specs.Book.{new_object, drop_object, add, look_up, show, read, write, copy, shadow, zero_out, lowest, past_end};
 ghost use Rattle.book.specs.Page.{touched};
 ghost use Rattle.store.specs.Sound.{sound?, Sized};
-ghost use Rattle.charts.specs.Charts.{FrameChains, RangeChains};
+ghost use Rattle.charts.specs.Charts.{EmptyCharts, FrameChains, RangeChains};
 ghost use Rattle.refusals.specs.Enter.{Tried};
 ghost use Rattle.refusals.specs.Refuse.{no_name, opening, pairing, refusal};
 ghost use Rattle.refusals.specs.Number.{number, number_of, word};
@@ -45,13 +45,6 @@ pub enum Refusal {
 }
 
 impl Refusal {
-    // Its number of the table.
-    pub fn number(self) -> u8
-        ensures { result ≡ number self }
-    {
-        self as u8
-    }
-
     // Its word of the table. By hand: each has a word of its own, which no derive knows.
     pub fn word(self) -> &'static str
         ensures { result.now ≡ word self }
@@ -70,11 +63,13 @@ impl Refusal {
     }
 }
 
+// Its number of the table.
 impl From<Refusal> for u8 {
     ghost from_gives = { λ refusal n. n ≡ number refusal };
 
+    // By hand: no derive gives the number of a variant.
     fn from(refusal: Refusal) -> u8 {
-        refusal.number()
+        refusal as u8
     }
 }
 
@@ -104,25 +99,35 @@ impl Extent {
         PageNumber::OBJECT_SIZE < self.offset || PageNumber::OBJECT_SIZE - self.offset < self.n
     }
 
-    // The same as a refusal.
-    fn in_object(self) -> Result<(), Refusal>
-        ensures { number_of result ≡ lowest ((past_end self.offset self.n, 6) ∷ []) }
+    // The same as a refusal; else they are known to end in their object.
+    fn in_object(self) -> Result<Within, Refusal>
+        ensures number { number_of result ≡ lowest ((past_end self.offset self.n, 6) ∷ []) }
+        ensures same { IfOk result (λ within. within.extent ≡ self) }
     {
         if self.past_end() {
             return Err(Refusal::PastEnd);
         }
-        Ok(())
+        Ok(Within { extent: self })
     }
+}
 
-    // How many pages they touch.
+// An extent that ends in its object: offset + length is at most 1,073,741,824.
+#[derive(Clone, Copy)]
+pub struct Within {
+    pub extent: Extent,
+    pub ghost ends: { extent.offset + extent.n ≤ 1073741824 },
+}
+
+impl Within {
+    // How many pages its bytes touch.
     pub fn touched(self) -> usize
-        requires { self.offset + self.n ≤ 1073741824 }
-        ensures { result ≡ touched 4096 self.offset self.n }
+        ensures { result ≡ touched 4096 self.extent.offset self.extent.n }
     {
-        if self.n == 0 {
+        let Extent { offset, n, .. } = self.extent;
+        if n == 0 {
             return 0;
         }
-        (PageNumber::place(self.offset) + self.n).div_ceil(PageNumber::PAGE_SIZE)
+        (PageNumber::place(offset) + n).div_ceil(PageNumber::PAGE_SIZE)
     }
 }
 
@@ -160,32 +165,61 @@ impl Passage {
     }
 }
 
-// A sound store, as the way into a call gives it.
+// A passage from one object to another, where both spans end in their objects.
 #[derive(Clone, Copy)]
-pub struct SoundStore<'a> {
-    pub store: &'a Store,
+pub struct Between {
+    pub passage: Passage,
+    pub ghost apart: { passage.source ≡ passage.object → ⊥ },
+    pub ghost begins: { passage.from + passage.n ≤ 1073741824 },
+    pub ghost ends: { passage.to + passage.n ≤ 1073741824 },
+}
+
+impl Between {
+    // The bytes that are read, which end in their object.
+    fn origin(self) -> Within
+        ensures { result.extent ≡ record { object = self.passage.source; offset = self.passage.from; n = self.passage.n } }
+    {
+        Within {
+            extent: self.passage.origin(),
+        }
+    }
+
+    // The bytes that are written, which end in theirs.
+    fn target(self) -> Within
+        ensures { result.extent ≡ record { object = self.passage.object; offset = self.passage.to; n = self.passage.n } }
+    {
+        Within {
+            extent: self.passage.target(),
+        }
+    }
+}
+
+// A sound store.
+#[derive(Clone, Copy)]
+pub struct SoundStore<'s> {
+    pub store: &'s Store,
     pub ghost sound: { sound? store.now ≡ true },
 }
 
-// The same with its charts: its ranges and frames are chained, for what the call does then.
+// The same with its charts, as the way into a call gives it: its ranges and frames are chained, for what the call does then.
 #[derive(Clone, Copy)]
-pub struct Entry<'a> {
-    pub sound: SoundStore<'a>,
-    pub charts: &'a Charts,
+pub struct Entry<'s, 'c> {
+    pub sound: SoundStore<'s>,
+    pub charts: &'c Charts,
     pub ghost framed: { FrameChains sound.store.now.places sound.store.now.frames charts.now.frames },
     pub ghost held: { RangeChains sound.store.now.ranges sound.store.now.count charts.now.ranges },
 }
 
 // THE WAY INTO A CALL. 1: "the store isn't sound". The ranges and frames of a sound store are chained.
-pub fn enter<'a>(s: &'a Store, charts: &mut Charts) -> Result<SoundStore<'a>, Refusal>
-    requires ranges { (charts.old.ranges.heads ≡ replicate 1024 0) × (charts.old.ranges.next ≡ replicate 1024 0) }
-    requires frames { (charts.old.frames.heads ≡ replicate 1024 0) × (charts.old.frames.next ≡ replicate 1024 0) }
-    ensures tried { Tried s.now result charts.new }
-    ensures same { IfOk result (λ sound. sound.store.now ≡ s.now) }
+pub fn enter<'s, 'c>(s: &'s Store, charts: &'c mut Charts) -> Result<Entry<'s, 'c>, Refusal>
+    requires { EmptyCharts charts.old }
+    ensures tried { Tried s.now result (λ entry. entry.charts.now) }
+    ensures same { IfOk result (λ entry. entry.sound.store.now ≡ s.now) }
 {
     lengths(s);
     if soundness::examine(s, charts) {
-        return Ok(SoundStore { store: s });
+        let sound = SoundStore { store: s };
+        return Ok(Entry { sound, charts });
     }
     Err(Refusal::Spoiled)
 }
@@ -210,6 +244,7 @@ fn in_object(page: PageNumber) -> Result<(), Refusal>
     Ok(())
 }
 
+// By hand: `pool`, `object`, `page`, `extent` and `passage` of its methods are the parameters that 01 gives each call; of its pool the length.
 impl SoundStore<'_> {
     // 2 or 3 of a call that lends a pool and names an object.
     fn opening(&self, pool: usize, object: u32) -> Result<(), Refusal>
@@ -224,8 +259,9 @@ impl SoundStore<'_> {
     }
 
     // 2, 3, 5 or 6 of a call that lends a pool and names the bytes of a source and of a destination.
-    fn pairing(&self, pool: usize, passage: Passage) -> Result<(), Refusal>
+    fn pairing(&self, pool: usize, passage: Passage) -> Result<Between, Refusal>
         ensures number { number_of result ≡ lowest (pairing self.now.store.now pool passage.source passage.from passage.object passage.to passage.n) }
+        ensures same { IfOk result (λ between. between.passage ≡ passage) }
         ensures sized { Sized self.now.store.now }
     {
         self.opening(pool, passage.source)?;
@@ -234,7 +270,8 @@ impl SoundStore<'_> {
             return Err(Refusal::Same);
         }
         passage.origin().in_object()?;
-        passage.target().in_object()
+        passage.target().in_object()?;
+        Ok(Between { passage })
     }
 
     // 3 or 4 of a new object.
@@ -287,33 +324,46 @@ impl SoundStore<'_> {
         ensures { (x : List ℕ) → length x ≡ pool → number_of result ≡ refusal self.now.store.now x (read extent.object extent.offset extent.n) }
     {
         self.opening(pool, extent.object)?;
-        extent.in_object()
+        extent.in_object()?;
+        Ok(())
     }
 
     // 2, 3, 5, 6, 7, 8 or 9 of a shadow copy.
-    pub fn shadow(&self, pool: usize, passage: Passage) -> Result<(), Refusal>
-        ensures { (x : List ℕ) → length x ≡ pool → number_of result ≡ refusal self.now.store.now x (shadow passage.source passage.from passage.object passage.to passage.n) }
+    pub fn shadow(&self, pool: usize, passage: Passage) -> Result<Between, Refusal>
+        ensures same { IfOk result (λ between. between.passage ≡ passage) }
+        ensures number { (x : List ℕ) → length x ≡ pool → number_of result ≡ refusal self.now.store.now x (shadow passage.source passage.from passage.object passage.to passage.n) }
     {
-        self.pairing(pool, passage)?;
+        let between = self.pairing(pool, passage)?;
         if PageNumber::place(passage.from) != 0 || PageNumber::place(passage.n) != 0 {
             return Err(Refusal::NotWhole);
         }
-        self.lacking(0, 2 * met_whole(self.store, passage.origin()))
+        self.lacking(0, 2 * met_whole(self.store, between.origin()))?;
+        Ok(between)
     }
 }
 
-impl<'a> Entry<'a> {
-    // The pages of the store with their states.
-    pub fn states(&self) -> States<'a>
+// By hand: `pool`, `extent` and `passage`, likewise, are parameters of the calls.
+impl Entry<'_, '_> {
+    // The pages of the store.
+    pub fn pages(&self) -> Pages<'_>
+        ensures store { result.store.now ≡ self.now.sound.store.now }
+        ensures charts { result.charts.now ≡ self.now.charts.now }
+    {
+        lengths(self.sound.store);
+        Pages {
+            store: self.sound.store,
+            charts: self.charts,
+        }
+    }
+
+    // The same with their states.
+    pub fn states(&self) -> States<'_>
         ensures store { result.pages.store.now ≡ self.now.sound.store.now }
         ensures charts { result.pages.charts.now ≡ self.now.charts.now }
     {
-        lengths(self.sound.store);
-        let pages = Pages {
-            store: self.sound.store,
-            charts: self.charts,
-        };
-        States { pages }
+        States {
+            pages: self.pages(),
+        }
     }
 
     // 2, 3, 6, 8 or 9 of bytes that are written.
@@ -321,24 +371,27 @@ impl<'a> Entry<'a> {
         ensures { (x d : List ℕ) → length x ≡ pool → length d ≡ extent.n → number_of result ≡ refusal self.now.sound.store.now x (write extent.object extent.offset d) }
     {
         self.sound.opening(pool, extent.object)?;
-        extent.in_object()?;
-        self.lacking_bytes(extent)
+        self.lacking_bytes(extent.in_object()?)
     }
 
     // 2, 3, 5, 6, 8 or 9 of a copy.
-    pub fn copy(&self, pool: usize, passage: Passage) -> Result<(), Refusal>
-        ensures { (x : List ℕ) → length x ≡ pool → number_of result ≡ refusal self.now.sound.store.now x (copy passage.source passage.from passage.object passage.to passage.n) }
+    pub fn copy(&self, pool: usize, passage: Passage) -> Result<Between, Refusal>
+        ensures same { IfOk result (λ between. between.passage ≡ passage) }
+        ensures number { (x : List ℕ) → length x ≡ pool → number_of result ≡ refusal self.now.sound.store.now x (copy passage.source passage.from passage.object passage.to passage.n) }
     {
-        self.sound.pairing(pool, passage)?;
-        self.lacking_copy(passage)
+        let between = self.sound.pairing(pool, passage)?;
+        self.lacking_copy(between)?;
+        Ok(between)
     }
 
     // 2, 3, 6, 8 or 9 of bytes that are cleared.
-    pub fn zero(&self, pool: usize, extent: Extent) -> Result<(), Refusal>
-        ensures { (x : List ℕ) → length x ≡ pool → number_of result ≡ refusal self.now.sound.store.now x (zero_out extent.object extent.offset extent.n) }
+    pub fn zero(&self, pool: usize, extent: Extent) -> Result<Within, Refusal>
+        ensures same { IfOk result (λ within. within.extent ≡ extent) }
+        ensures number { (x : List ℕ) → length x ≡ pool → number_of result ≡ refusal self.now.sound.store.now x (zero_out extent.object extent.offset extent.n) }
     {
         self.sound.opening(pool, extent.object)?;
-        extent.in_object()?;
-        self.lacking_zero(extent)
+        let within = extent.in_object()?;
+        self.lacking_zero(within)?;
+        Ok(within)
     }
 }

@@ -6,12 +6,12 @@
 // Numbers are hexadecimal. rust/harness prints the same of the original, and compares.
 #![tactic(auto)]
 
-ghost use Rattle.std.specs.Prelude.{◌≤◌, ◌<◌};
+ghost use Rattle.std.specs.Prelude.{◌≤◌, ◌<◌, length};
 
 mod output;
 
 use arrayvec::ArrayVec;
-use output::Output;
+use output::{Holdings, Output};
 use page::PageNumber;
 use std::fmt::{self, Write};
 use std::io::{Read, Stdin};
@@ -20,14 +20,12 @@ use store::Store;
 // The bytes of 1,024 frames.
 const POOL: usize = 4194304;
 
-// How many bytes of the pool belong to a store.
-fn pool_length(s: &Store) -> usize
-    ensures { result ≤ 4194304 }
-{
-    s.frames.min(1024) * PageNumber::PAGE_SIZE
+// What a store holds, printed.
+fn tell(out: &mut Output, store: &Store, pool: &[u8]) -> fmt::Result {
+    write!(out, "{}", Holdings { store, pool })
 }
 
-// A digit's value; what is no digit counts as 0.
+// A digit's value; what is no digit counts as 0. By hand: std's `to_digit` takes small letters for digits too.
 fn digit(b: u8) -> usize
     ensures { result < 16 }
 {
@@ -44,86 +42,95 @@ fn asked(line: &[u8]) -> Option<usize> {
     Some(digits.iter().fold(0, |n, b| n % 4096 * 16 + digit(*b)))
 }
 
-// The lists under way: the store, the bytes held of the line under way, as many as there is room for, and the output.
+// The lists under way: the store and the pool, the bytes held of the line under way, as many as there is room for, and the output.
 #[derive(Drop)]
-struct Replay {
+struct Replay<'p> {
     store: Store,
+    pool: &'p mut [u8],
     line: ArrayVec<u8, 1024>,
     out: Output,
 }
 
-impl Replay {
+impl Replay<'_> {
+    // How many bytes of the pool belong to the store.
+    fn pool_length(&self) -> usize
+        ensures { result ≤ length self.now.pool.now }
+    {
+        let bytes = self.store.frames.min(1024) * PageNumber::PAGE_SIZE;
+        bytes.min(self.pool.len())
+    }
+
     // A list is started; the answer is a call's.
     fn start(&mut self, frames: usize) -> fmt::Result {
         let (number, store) = match calls::create(frames) {
             Ok(store) => (0, store),
-            Err(refused) => (refused.refusal.number(), refused.store),
+            Err(refused) => (u8::from(refused.refusal), refused.store),
         };
         self.store = store;
         write!(self.out, "{number:02X}")
     }
 
     // The answer to the line.
-    fn answer(&mut self, pool: &mut [u8; POOL]) -> fmt::Result {
+    fn answer(&mut self) -> fmt::Result {
         if let Some(frames) = asked(&self.line) {
             return self.start(frames);
         }
-        let n = pool_length(&self.store);
-        let digits = lines::answer(&mut self.store, &mut pool[..n], &self.line);
+        let n = self.pool_length();
+        let digits = lines::answer(&mut self.store, &mut self.pool[..n], &self.line);
         self.out.put(&digits)
     }
 
-    // The answer to the line, and what the store holds then.
-    fn finish_line(&mut self, pool: &mut [u8; POOL]) -> fmt::Result {
-        self.answer(pool)?;
+    // The answer to the line, and what the store holds then. By hand: tried, `&self.pool[..n]` beside `&mut self.out` is refused by the
+    // borrow check.
+    fn finish_line(&mut self) -> fmt::Result {
+        self.answer()?;
         self.line.clear();
         self.out.write_str("\n")?;
-        let n = pool_length(&self.store);
-        self.out.put_store(&self.store, &pool[..n])
-    }
-
-    // The bytes behind the held ones.
-    fn hold(&mut self, part: &[u8]) {
-        let n = self.line.remaining_capacity().min(part.len());
-        let _ = self.line.try_extend_from_slice(&part[..n]);
+        let n = self.pool_length();
+        tell(&mut self.out, &self.store, &mut self.pool[..n])
     }
 
     // A chunk of the input: every line that ends in it.
-    fn read_chunk(&mut self, pool: &mut [u8; POOL], chunk: &[u8]) -> fmt::Result {
+    fn read_chunk(&mut self, chunk: &[u8]) -> fmt::Result {
         for part in chunk.split_inclusive(|b| *b == b'\n') {
             match part {
                 [line @ .., b'\n'] => {
-                    self.hold(line);
-                    self.finish_line(pool)?;
+                    lines::hold(&mut self.line, line);
+                    self.finish_line()?;
                 }
-                _ => self.hold(part),
+                _ => lines::hold(&mut self.line, part),
             }
         }
         Ok(())
     }
 
     // Chunk after chunk. A read that fails counts as the end of the input. A proved loop has to end, and nothing says that input does: the chunks are counted up to
-    // a number that no run reaches.
-    fn read_all(&mut self, mut input: Stdin, pool: &mut [u8; POOL]) -> fmt::Result {
+    // a number that no run reaches. By hand, as the console's loop is: over a closure that is lent each part, all of `self` would be the closure's.
+    fn read_all(&mut self, mut input: Stdin) -> fmt::Result {
         let mut chunk = [0; 65536];
         for _ in 0..u64::MAX {
             let n = input.read(&mut chunk).unwrap_or(0);
             if n == 0 {
                 break;
             }
-            self.read_chunk(pool, &chunk[..n])?;
+            self.read_chunk(&chunk[..n])?;
         }
         self.out.flush()
     }
 }
 
-// A write that fails ends the run.
-fn main(rt: HostRuntime) {
-    let mut pool = [0; POOL];
+// A write that fails ends the run, and there is nobody to tell. A function of its own: what is lent here is any array, and a proof in `main` would write out the zeros.
+fn run(input: Stdin, pool: &mut [u8; POOL]) {
     let mut replay = Replay {
         store: calls::create(1).unwrap_or_else(|refused| refused.store),
+        pool,
         line: ArrayVec::new(),
         out: Output::new(),
     };
-    let _ = replay.read_all(rt.stdin(), &mut pool);
+    let _ = replay.read_all(input);
+}
+
+fn main(rt: HostRuntime) {
+    let mut pool = [0; POOL];
+    run(rt.stdin(), &mut pool);
 }

@@ -2,7 +2,7 @@
 use arrayvec::ArrayVec;
 use places::Place;
 use range_tests::is_live;
-use std::fmt::{self, Write};
+use std::fmt::{self, Display, Formatter, Write};
 use store::Store;
 use table::PageRange;
 
@@ -15,7 +15,7 @@ fn hash(bytes: &[u8]) -> u64 {
 
 // The page of a range that a frame at this place shows, if it shows one.
 fn page_shown(r: PageRange, p: Place) -> Option<usize> {
-    if p.backing == 0 || !r.in_window(p.backing, p.index) {
+    if p.is_free() || !r.in_window(p.backing, p.index) {
         return None;
     }
     r.start.0.checked_add((p.index - r.offset) as usize)
@@ -46,7 +46,7 @@ impl Output {
     pub fn flush(&mut self) -> fmt::Result {
         let written = io::write_all(1, &self.gathered);
         self.gathered.clear();
-        if written { Ok(()) } else { Err(fmt::Error) }
+        written.then_some(()).ok_or(fmt::Error)
     }
 
     pub fn put(&mut self, bytes: &[u8]) -> fmt::Result {
@@ -57,19 +57,30 @@ impl Output {
             .try_extend_from_slice(bytes)
             .map_err(|_| fmt::Error)
     }
+}
 
+// What a store holds, with the page memory that its frames lie in.
+#[derive(Clone, Copy)]
+pub struct Holdings<'a> {
+    pub store: &'a Store,
+    pub pool: &'a [u8],
+}
+
+impl Holdings<'_> {
     // The present pages of a range.
-    fn put_pages(&mut self, s: &Store, r: PageRange, pool: &[u8]) -> fmt::Result {
+    fn pages<W: Write>(&self, f: &mut Formatter<W>, r: PageRange) -> fmt::Result {
+        let s = self.store;
         for (frame, p) in s.places.iter().enumerate().take(s.frames) {
             if let Some(page) = page_shown(r, *p) {
-                let hash = hash(pool::show_ref(pool, Some(frame)));
-                writeln!(self, "p {page:05x} {frame:03x} {hash:012x}")?;
+                let hash = hash(pool::show_ref(self.pool, Some(frame)));
+                writeln!(f, "p {page:05x} {frame:03x} {hash:012x}")?;
             }
         }
         Ok(())
     }
 
-    fn put_range(&mut self, s: &Store, r: PageRange) -> fmt::Result {
+    fn range<W: Write>(&self, f: &mut Formatter<W>, r: PageRange) -> fmt::Result {
+        let s = self.store;
         let number = r.backing.number();
         let holds = |q: &PageRange| q.backing.number() == number;
         let mut ranges = s.ranges.iter().take(s.count);
@@ -78,28 +89,31 @@ impl Output {
         let letter = if is_shared { 's' } else { 'p' };
         let (start, length, offset) = (r.start.0, r.length, r.offset);
         writeln!(
-            self,
+            f,
             "r {start:05x} {length:05x} {offset:05x} {first:03x} {letter}"
         )
     }
 
     // An object, its ranges and their pages.
-    fn put_object(&mut self, s: &Store, object: u32, pool: &[u8]) -> fmt::Result {
-        writeln!(self, "o {object:02x}")?;
+    fn object<W: Write>(&self, f: &mut Formatter<W>, object: u32) -> fmt::Result {
+        let s = self.store;
+        writeln!(f, "o {object:02x}")?;
         for r in s.ranges.iter().take(s.count).filter(|r| r.object == object) {
-            self.put_range(s, *r)?;
-            self.put_pages(s, *r, pool)?;
+            self.range(f, *r)?;
+            self.pages(f, *r)?;
         }
         Ok(())
     }
+}
 
-    // What a store holds, and a full stop.
-    pub fn put_store(&mut self, s: &Store, pool: &[u8]) -> fmt::Result {
+// The live objects, and a full stop.
+impl Display for Holdings<'_> {
+    fn fmt<W: Write>(&self, f: &mut Formatter<W>) -> fmt::Result {
         for object in 0..32 {
-            if is_live(s.live, object) {
-                self.put_object(s, object, pool)?;
+            if is_live(self.store.live, object) {
+                self.object(f, object)?;
             }
         }
-        self.write_str(".\n")
+        f.write_str(".\n")
     }
 }

@@ -27,9 +27,7 @@ fn spoken(bytes: &[u8]) -> Spoken
     requires { length bytes.now ≤ 256 }
     ensures { result.items ≡ bytes.now }
 {
-    let mut spoken = ArrayVec::new();
-    let _ = spoken.try_extend_from_slice(bytes);
-    spoken
+    ArrayVec::try_from(bytes).unwrap()
 }
 
 // "(two bytes)", high byte first
@@ -40,7 +38,8 @@ fn two(n: usize) -> [u8; 2]
     [high, low]
 }
 
-// "`00` absent, `01` private, `02` shared". By hand: the bytes are the line program's, and no part of a state.
+// "`00` absent, `01` private, `02` shared". By hand: `t as u8` would make the order in which `State` names its
+// kinds a part of the line program.
 fn state_byte(t: State) -> u8
     ensures { result ≡ state_byte (state_is t) }
 {
@@ -68,7 +67,7 @@ fn read(s: &Store, pool: &[u8], object: u32, offset: usize, length: u8) -> Resul
     let data = &mut data[..usize::from(length)];
     access::read(*s, pool, object, offset, data)?;
     let mut spoken = spoken(&[0]);
-    let _ = spoken.try_extend_from_slice(data);
+    spoken.try_extend_from_slice(data).unwrap();
     Ok(spoken)
 }
 
@@ -100,7 +99,7 @@ fn counts(s: &Store) -> Result<Spoken, Refusal>
     Ok(spoken(&[0, frames_high, frames_low, ranges_high, ranges_low]))
 }
 
-// The call made, and the bytes of its answer where it is done.
+// The call made, and the bytes of its answer where it is done. By hand: the match of an enum, each of whose kinds has fields and a call of its own.
 fn call(s: &mut Store, pool: &mut [u8], command: Command) -> Result<Spoken, Refusal>
     ensures { Spoke (call_for command.entry) s.old pool.old (told result) s.new pool.new }
 {
@@ -140,7 +139,7 @@ fn call(s: &mut Store, pool: &mut [u8], command: Command) -> Result<Spoken, Refu
 pub fn answer(s: &mut Store, pool: &mut [u8], command: Command) -> Spoken
     ensures { Spoke (call_for command.entry) s.old pool.old result.items s.new pool.new }
 {
-    call(s, pool, command).unwrap_or_else(|refusal| spoken(&[refusal.number()]))
+    call(s, pool, command).unwrap_or_else(|refusal| spoken(&[u8::from(refusal)]))
 }
 
 // A line that asks for no call: it "prints `FF`".

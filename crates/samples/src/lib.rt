@@ -1,7 +1,9 @@
 // A store built by hand, the same with something else in one place, and what the calls say of a store, for the programs that run the calls.
+// By hand: `object`, `start`, `length`, `offset` are the fields of a range, in their order, so that a case tells its ranges in lines of a table; `s`, `object`, `page`
+// are those that document 01 gives a look-up; `i < 512` is asked of a slot whose number stands in the case, and is proved there without an answer.
 #![tactic(auto)]
 
-ghost use Rattle.std.specs.Prelude.{◌≡◌, ◌<◌, ◌≤◌, length, replicate};
+ghost use Rattle.std.specs.Prelude.{◌≡◌, ◌+◌, ◌<◌, max, replicate, set};
 ghost use Rattle.table.specs.Table.{zero_range};
 
 use calls::Numbers;
@@ -10,6 +12,7 @@ use page::PageNumber;
 use places::Place;
 use refusals::Refusal;
 pub use reports::report;
+use std::array;
 use store::Store;
 use table::{BackingPages, PageRange};
 
@@ -52,24 +55,18 @@ pub fn place(backing: u32, index: u32) -> Place {
 pub const FREE: Place = Place::NOWHERE;
 
 // An array that begins so, the rest filled up.
-fn padded<T: Copy, const N: usize>(first: &[T], rest: T) -> [T; N]
-    requires { length first.now ≤ N }
-{
-    let mut a = [rest; N];
-    a[..first.len()].copy_from_slice(first);
-    a
+fn padded<T: Copy, const N: usize>(first: &[T], rest: T) -> [T; N] {
+    array::from_fn(|k| first.get(k).copied().unwrap_or(rest))
 }
 
-// A store with these ranges from slot 0 on, with frames at these places from frame 0 on, and with a free map that begins so.
+// A store with these ranges from slot 0 on, with frames at these places from frame 0 on, and with a free map that begins so. One of more ranges than slots is not sound.
 pub fn store(
     frames: usize,
     live: u32,
     ranges: &[PageRange],
     places: &[Place],
     free: &[u64],
-) -> Store
-    requires { (length ranges.now ≤ 512) × (length places.now ≤ 1024) × (length free.now ≤ 16) }
-{
+) -> Store {
     Store {
         frames,
         live,
@@ -82,7 +79,6 @@ pub fn store(
 
 // A store of no object.
 pub fn blank(frames: usize, free: &[u64]) -> Store
-    requires { length free.now ≤ 16 }
     ensures frames { result.frames ≡ frames }
     ensures no_range { (result.count ≡ 0) × (result.ranges ≡ replicate 512 zero_range) }
 {
@@ -149,18 +145,36 @@ pub fn with_word(i: usize, w: u64) -> Store
 pub fn with_place(f: usize, p: Place, w: u64) -> Store
     requires { f < 1024 }
 {
-    let mut s = with_word(0, w);
-    s.places[f] = p;
+    seated(good(), f, p, w)
+}
+
+// ---- any store with something else in one place
+// This range in a slot, or in the next one.
+pub fn ranged(mut s: Store, i: usize, r: PageRange) -> Store
+    requires { i < 512 }
+    ensures range { result.ranges ≡ set s.ranges i r }
+    ensures count { result.count ≡ max s.count (i + 1) }
+{
+    s.ranges[i] = r;
+    s.count = s.count.max(i + 1);
     s
 }
 
+// Frame f at this place, and this first word of the free map.
+pub fn seated(mut s: Store, f: usize, p: Place, w: u64) -> Store
+    requires { f < 1024 }
+    ensures place { result.places ≡ set s.places f p }
+    ensures word { result.free ≡ set s.free 0 w }
+{
+    s.places[f] = p;
+    s.free[0] = w;
+    s
+}
+
+// ---- a full table
 // A table without an unused slot: every other page of object 0, each an index of backing 1.
 pub fn full_table() -> [PageRange; 512] {
-    let mut a = [PageRange::ZERO; 512];
-    for k in 0..512 {
-        a[k] = many(0, k * 2, 1, k as u32, 1);
-    }
-    a
+    array::from_fn(|k| many(0, k * 2, 1, k as u32, 1))
 }
 
 pub fn full(count: usize) -> Store {

@@ -1,14 +1,12 @@
 // Runs writes to pages that are shared or absent, and one page handed over. Answers are written by hand from document 01. One line a case.
 #![tactic(auto)]
 
-ghost use Rattle.std.specs.Prelude.{◌≤◌, length};
-
 use access_samples::{
-    adds, bare, five, frames, fresh, halved, halves, high, holed, leaves, puts, read_is, small,
-    span, thirds,
+    adds, bare, five, frames, fresh, halved, halves, hole_filled, holed, leaves, puts, read_is,
+    small, span, thirds, three_pages, twice, twice_cut, windows_apart,
 };
 use refusals::Refusal;
-use samples::{FREE, many, place, private, report, shared, single, sound, store};
+use samples::{FREE, many, place, private, ranged, report, seated, shared, single, sound, store};
 use store::Store;
 use table::PageRange;
 
@@ -75,23 +73,19 @@ fn written_uncovered() {
 }
 
 fn written_hole() {
-    let a = [many(0, 0, 3, 0, 1), single(0, 4, 1, 0, 2)];
-    let p = [place(2, 0), FREE, place(1, 2), place(1, 1), place(1, 0)];
     puts(
         "an absent page of an unshared range",
         holed(),
         0,
         4101,
         b"a",
-        small(3, &a, &p, 2),
+        hole_filled(),
         &fresh(3, 12293, b'a'),
     );
 }
 
 // From the last byte of page 0, nothing covered: page 1 joins page 0, and page 2 both.
 fn written_new() {
-    let p = [FREE, FREE, place(1, 2), place(1, 1), place(1, 0)];
-    let t = small(3, &[many(0, 0, 3, 0, 1)], &p, 3);
     let mut want = frames(&[1, 2, 0, 12, 0]);
     want[20479] = 11;
     want[8192] = 13;
@@ -101,7 +95,7 @@ fn written_new() {
         0,
         4095,
         &span(),
-        t,
+        three_pages(),
         &want,
     );
 }
@@ -142,20 +136,16 @@ fn written_mixed() {
 
 // Pages 0 and 1 of object 0 are the same page: the first is copied, the second is private by then.
 fn written_twice() {
-    let a = [single(0, 0, 1, 0, 1), single(0, 1, 1, 0, 1)];
-    let s = small(3, &a, &high(FREE, place(1, 0)), 15);
-    let b = [single(0, 0, 1, 0, 2), single(0, 1, 1, 0, 1)];
-    let t = small(3, &b, &high(place(2, 0), place(1, 0)), 7);
     let mut want = frames(&[1, 2, 3, 5, 5]);
     want[16383] = b'x';
     want[16384] = b'y';
     puts(
         "a page that is private when it is reached",
-        s,
+        twice(),
         0,
         4095,
         b"xy",
-        t,
+        twice_cut(),
         &want,
     );
 }
@@ -174,27 +164,18 @@ fn released() -> Store {
 
 // The same with page 9 of object 1 in frame 4.
 fn taken() -> Store {
-    let a = [
-        many(0, 0, 1, 0, 1),
-        single(0, 1, 1, 0, 2),
-        single(0, 2, 1, 0, 3),
-        many(1, 0, 1, 5, 1),
-        single(1, 9, 1, 0, 4),
-    ];
-    let p = [FREE, FREE, place(3, 0), place(2, 0), place(4, 0)];
-    small(3, &a, &p, 3)
+    let s = ranged(released(), 4, single(1, 9, 1, 0, 4));
+    seated(s, 4, place(4, 0), 3)
 }
 
 fn written_released() {
-    let a = [many(0, 0, 3, 0, 1), many(1, 0, 1, 5, 1)];
-    let s = small(3, &a, &high(FREE, place(1, 1)), 15);
     let t = released();
     let mut want = frames(&[1, 2, 0, 5, 5]);
     want[8192] = b'y';
     want[16383] = b'x';
     puts(
         "a released frame is not used in the call",
-        s,
+        windows_apart(),
         0,
         8191,
         b"xy",
@@ -206,9 +187,7 @@ fn written_released() {
 
 // ---- a page handed over, as in the lines of document 01
 // Sixteen frames, with two pages in frames 15 and 14.
-fn sixteen(ranges: &[PageRange]) -> Store
-    requires { length ranges.now ≤ 512 }
-{
+fn sixteen(ranges: &[PageRange]) -> Store {
     let mut s = store(16, 3, ranges, &[], &[16383]);
     s.places[15] = place(1, 0);
     s.places[14] = place(1, 1);
@@ -217,7 +196,7 @@ fn sixteen(ranges: &[PageRange]) -> Store
 
 // Objects 0 and 1 of a new store; four bytes over an edge of object 0.
 fn write_new(pool: &mut [u8]) -> Result<Store, Refusal> {
-    let s = calls::create(16).map_err(|e| e.refusal)?;
+    let s = calls::create(16)?;
     let s = calls::new_object(s, 0)?;
     let s = calls::new_object(s, 1)?;
     access::write(s, pool, 0, 4094, &[170, 187, 204, 221])
@@ -266,7 +245,7 @@ fn handed_over() {
     second_write(t, &pool);
 }
 
-// The parts, one after another. By hand: a table of them would be one of function pointers.
+// The parts, one after another. By hand: a table of functions and a loop over it say no more than the calls.
 fn main() {
     written_shared();
     written_same();

@@ -4,17 +4,14 @@
 use access_samples::{five, halves, holed, paged, read_is, small};
 use copy_samples::{across, quiet, shadows};
 use refusals::Refusal;
-use samples::{FREE, absent, many, place, private, report, shared, single, sound};
+use samples::{FREE, absent, many, place, private, ranged, report, shared, single, sound};
 use store::Store;
 use table::PageRange;
 
 // ---- whole pages at equal places
 // The five pages of object 0, and this range of object 1.
 fn paged_beside(r: PageRange) -> Store {
-    let mut s = paged();
-    s.ranges[1] = r;
-    s.count = 2;
-    s
+    ranged(paged(), 1, r)
 }
 
 fn whole() {
@@ -110,16 +107,14 @@ fn shadowed() {
 
 fn shadowed_holes() {
     let s = holed();
-    let mut t = s;
-    t.ranges[2] = many(1, 0, 3, 0, 1);
-    t.ranges[3] = single(1, 4, 1, 0, 2);
-    t.count = 4;
+    let t = ranged(s, 2, many(1, 0, 3, 0, 1));
+    let t = ranged(t, 3, single(1, 4, 1, 0, 2));
     shadows("a shadow of what has a hole", s, across(0, 5, 20480), t);
 }
 
 // ---- pages handed on from object to object
 fn chain_start(pool: &mut [u8]) -> Result<Store, Refusal> {
-    let mut s = calls::create(16).unwrap_or_else(|refused| refused.store);
+    let mut s = calls::create(16)?;
     for object in 0..3 {
         s = calls::new_object(s, object)?;
     }
@@ -178,6 +173,7 @@ fn chain() -> Result<(), Refusal> {
     chain_end(s, &mut pool)
 }
 
+// The parts, one after another. By hand: a table of functions and a loop over it say no more than the calls.
 fn main() -> Result<(), Refusal> {
     whole();
     whole_met();

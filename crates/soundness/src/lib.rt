@@ -1,8 +1,8 @@
 // THE TEST OF SOUNDNESS: whether a store is sound, for any value of its type. The ranges and frames of a sound one are chained, for those who work on it then.
 #![tactic(auto)]
 
-ghost use Rattle.std.specs.Prelude.{◌≡◌, true, ◌&&◌, ◌≤◌, leb, length, replicate};
-ghost use Rattle.charts.specs.Charts.{FrameChains, RangeChains};
+ghost use Rattle.std.specs.Prelude.{◌≡◌, true, ◌&&◌, ◌≤◌, leb, length};
+ghost use Rattle.charts.specs.Charts.{Empty, EmptyCharts, FrameChains, RangeChains};
 ghost use Rattle.soundness.specs.Parts.{agreeing?, placed?, range_tests};
 ghost use Rattle.store.specs.Sound.{sound?, Sized};
 
@@ -12,7 +12,7 @@ use store::Store;
 
 // The sentences about ranges by themselves, "at most 512 ranges" too. Ranges are chained by their backings.
 fn examine_ranges(s: &Store, ranges: &mut Chains) -> bool
-    requires empty { (ranges.old.heads ≡ replicate 1024 0) × (ranges.old.next ≡ replicate 1024 0) }
+    requires empty { Empty ranges.old }
     ensures answer { result ≡ (leb s.now.count 512 && range_tests s.now) }
     ensures agreeing { result ≡ true → agreeing? s.now ≡ true }
     ensures chained { result ≡ true → RangeChains s.now.ranges s.now.count ranges.new }
@@ -27,7 +27,7 @@ fn examine_places(s: &Store, ranges: &Chains, frames: &mut Chains) -> bool
     requires few { (s.now.frames ≤ 1024) × (s.now.count ≤ 512) }
     requires agreeing { agreeing? s.now ≡ true }
     requires ranges { RangeChains s.now.ranges s.now.count ranges.now }
-    requires empty { (frames.old.heads ≡ replicate 1024 0) × (frames.old.next ≡ replicate 1024 0) }
+    requires empty { Empty frames.old }
     ensures answer { result ≡ placed? s.now }
     ensures chained { result ≡ true → FrameChains s.now.places s.now.frames frames.new }
 {
@@ -38,8 +38,7 @@ fn examine_places(s: &Store, ranges: &Chains, frames: &mut Chains) -> bool
 
 // "What a sound store is", as one test; "1 to 1,024 frames" is looked at here. The ranges and frames of a sound store are chained then.
 pub fn examine(s: &Store, charts: &mut Charts) -> bool
-    requires ranges { (charts.old.ranges.heads ≡ replicate 1024 0) × (charts.old.ranges.next ≡ replicate 1024 0) }
-    requires frames { (charts.old.frames.heads ≡ replicate 1024 0) × (charts.old.frames.next ≡ replicate 1024 0) }
+    requires { EmptyCharts charts.old }
     ensures answer { result ≡ sound? s.now }
     ensures ranges { result ≡ true → RangeChains s.now.ranges s.now.count charts.new.ranges }
     ensures frames { result ≡ true → FrameChains s.now.places s.now.frames charts.new.frames }

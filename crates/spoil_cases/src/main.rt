@@ -2,8 +2,8 @@
 #![tactic(auto)]
 
 use samples::{
-    FREE, blank, full, many, nothing, place, single, sound, spoiled, with_counts, with_place,
-    with_range, with_ranges, with_word,
+    FREE, blank, full, many, nothing, place, ranged, single, sound, spoiled, with_counts,
+    with_place, with_range, with_ranges, with_word,
 };
 use store::Store;
 
@@ -153,9 +153,7 @@ fn spoiled_vectors() {
 
 // Backing 2 as a vector in slot 1 and as a single in slot 2, with a frame at its index 0.
 fn vector_then_single() -> Store {
-    let mut s = with_place(1, place(2, 0), 1);
-    s.ranges[2] = single(1, 5, 1, 0, 2);
-    s
+    ranged(with_place(1, place(2, 0), 1), 2, single(1, 5, 1, 0, 2))
 }
 
 // "Each vector entry lies in the window of some range that holds the vector."; "no two at the same"
@@ -252,7 +250,7 @@ fn spoiled_bits() {
     spoiled("bit 1023 set", with_word(15, 9223372036854775808));
 }
 
-// The parts, one after another. By hand: a table of them would be one of function pointers.
+// The parts, one after another. By hand: a table of functions and a loop over it say no more than the calls.
 fn main() {
     spoiled_counts();
     spoiled_names();

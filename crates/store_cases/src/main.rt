@@ -1,8 +1,6 @@
 // Runs the calls that need no page bytes on a good store. Answers are written by hand from document 01. One line a case.
 #![tactic(auto)]
 
-ghost use Rattle.std.specs.Prelude.{◌≤◌, length};
-
 use page::PageNumber;
 use refusals::Refusal;
 use samples::{
@@ -83,9 +81,7 @@ fn not_created(name: &str, frames: usize) {
     report(name, right);
 }
 
-fn made(name: &str, frames: usize, free: &[u64])
-    requires { length free.now ≤ 16 }
-{
+fn made(name: &str, frames: usize, free: &[u64]) {
     let right = calls::create(frames).is_ok_and(|s| s == blank(frames, free));
     report(name, right);
 }
@@ -164,7 +160,7 @@ fn shown() {
     );
 }
 
-// The parts, one after another. By hand: a table of them would be one of function pointers.
+// The parts, one after another. By hand: a table of functions and a loop over it say no more than the calls.
 fn main() {
     looked();
     unknown();

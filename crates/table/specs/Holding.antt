@@ -1,16 +1,15 @@
--- Counting the holders of a backing, and finding a new number, from what the loops know.
-use Rattle.std.specs.Prelude.{◌≡◌, List, length, get_or, take, drop, true, false}
-use Rattle.std.proofs.Math.Path.{refl, ap, sym}
-use Rattle.std.proofs.Common.{◌∙◌, add-one, not-suc-le-zero, length-take-le}
-use Prim.Native.Nat.{ℕ, zero, suc, ◌+◌, ◌-◌, ◌≤◌, ◌<◌}
-use native.Mathlib.Omega.{arith}
+-- Counting the holders of a backing, one range after the other.
+use Rattle.std.specs.Prelude.{◌≡◌, List, length, get_or, take, drop}
+use Rattle.std.proofs.Math.Path.{sym}
+use Rattle.std.proofs.Common.{◌∙◌, length-take-le}
+use Prim.Native.Nat.{ℕ, suc, ◌+◌, ◌≤◌, ◌<◌}
 use Rattle.std.proofs.lemmas.List.{length-map}
 use borrow.Author.Tests.{eq-eqb, ne_eqb}
 use Rattle.lists.specs.Rest.{left_cons, left_end}
 use Rattle.ranges.specs.Range.{Range}
-use Rattle.ranges.specs.Table.{holders, fresh, fresh_from, window, named}
+use Rattle.ranges.specs.Table.{holders}
 use Rattle.table.specs.declared.PageRange.{PageRange}
-use Rattle.table.specs.Table.{number_of, range_of, ranges_of, zero_range}
+use Rattle.table.specs.Table.{number_of, ranges_of, zero_range}
 
 -- the ranges from number i on, of the first `count`
 abbrev pub left : List PageRange → ℕ → ℕ → List Range
@@ -29,40 +28,6 @@ module _ (R : List PageRange) (count : ℕ) (l : count ≤ length R) (b : ℕ) w
   unfolding ranges_of holders
   holders_end i h = rw (left_end count R i h)
 
-module _ (rs : List Range) where
-  pub fresh_start : (k : ℕ) → length rs ≡ k → fresh_from k 1 rs ≡ fresh rs
-  unfolding fresh
-  fresh_start k e = ap (λ m. fresh_from m 1 rs) (sym e)
-
-  pub fresh_hit : (k n : ℕ) → 0 < k → holders n rs ≡ 0 → fresh_from k n rs ≡ n
-  unfolding fresh_from
-  fresh_hit zero n h e = absurd (not-suc-le-zero h)
-  fresh_hit (suc k) n h e = rw (eq-eqb (holders n rs) 0 e)
-
-  pub fresh_turn : (k n : ℕ) → 0 < k → (holders n rs ≡ 0 → ⊥) → fresh_from (k - 1) (n + 1) rs ≡ fresh_from k n rs
-  unfolding fresh_from
-  fresh_turn zero n h e = absurd (not-suc-le-zero h)
-  fresh_turn (suc k) n h e = let m : suc k - 1 ≡ k = omega arith in rw (ne_eqb (holders n rs) 0 e, m, add-one)
-
-  pub fresh_end : (k n : ℕ) → k ≤ 0 → fresh_from k n rs ≡ n
-  unfolding fresh_from
-  fresh_end zero n h = refl
-  fresh_end (suc k) n h = absurd (not-suc-le-zero h)
-
 pub ranges_length : (R : List PageRange) (count : ℕ) → count ≤ length R → length (ranges_of (take count R)) ≡ count
 unfolding ranges_of
 ranges_length R count l = length-map (take count R) _ ∙ length-take-le count R l
-
--- windows, from what the loop knows
-module _ (R : List PageRange) (count : ℕ) (l : count ≤ length R) (b i : ℕ) where
-  pub window_miss : (k : ℕ) → k < count → window b i (range_of (get_or R k zero_range)) ≡ false → named b i (left R count k) ≡ named b i (left R count (k + 1))
-  unfolding ranges_of named
-  window_miss k h e = rw (left_cons count R k zero_range h l, e)
-
-  pub window_hit : (k : ℕ) → k < count → window b i (range_of (get_or R k zero_range)) ≡ true → named b i (left R count k) ≡ true
-  unfolding ranges_of named
-  window_hit k h e = rw (left_cons count R k zero_range h l, e)
-
-  pub window_end : (k : ℕ) → count ≤ k → named b i (left R count k) ≡ false
-  unfolding ranges_of named
-  window_end k h = rw (left_end count R k h)

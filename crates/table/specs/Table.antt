@@ -57,6 +57,11 @@ pub record Cut (q : Pieces) (a e : ℕ) (r : Ranged BackingPages) : Type 0 where
   pub before : parts_of q.before ≡ front a r
   pub after : parts_of q.after ≡ back e r
 
+-- the number before n, if there is one
+abbrev pub less_one : ℕ → Option ℕ
+less_one zero = None
+less_one (suc k) = Some k
+
 -- the place of the range that covers page g: the last that begins at or before it, if that reaches so far
 abbrev pub reaching : ℕ → List (Ranged BackingPages) → ℕ → Option ℕ
 reaching g rs zero = None

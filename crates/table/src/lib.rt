@@ -1,6 +1,6 @@
 #![tactic(auto)]
 
-ghost use Rattle.std.specs.Prelude.{◌≡◌, ◌++◌, ◌∷◌, [], ◌≤◌, ◌<◌};
+ghost use Rattle.std.specs.Prelude.{◌≡◌, ◌++◌, ◌∷◌, [], ◌+◌, ◌≤◌, ◌<◌, min};
 ghost use Rattle.ranges.specs.Range.{line, from, upto, skip, front, back, split_at};
 ghost use Rattle.ranges.specs.Table.{window};
 ghost use Rattle.table.specs.Table.{number_of, ranged, range_of, zero_range, Small, parts_of, Cut};
@@ -60,6 +60,7 @@ pub struct Around {
     pub after: Option<PageRange>,
 }
 
+// By hand: `Small self` stands in six contracts, of what cuts a range: any value may stand in a store, so that `Small` is no ghost field of a range.
 impl PageRange {
     // "unused slots are zero"
     pub const ZERO: PageRange = PageRange {
@@ -82,20 +83,18 @@ impl PageRange {
         }
     }
 
-    // Where the range begins on the line.
+    // Where the range begins on the line. Any range may be asked: a start beyond the object's pages counts as their end.
     pub fn first(self) -> usize
-        requires { Small self }
-        ensures { result ≡ from (ranged self) }
+        ensures { result ≡ line self.object (min self.start.0 262144) }
     {
-        self.object as usize * PageNumber::COUNT + self.start.0
+        self.object as usize * PageNumber::COUNT + self.start.0.min(PageNumber::COUNT)
     }
 
-    // Where it ends, exclusive.
+    // Where it ends, exclusive, likewise.
     pub fn end(self) -> usize
-        requires { Small self }
-        ensures { result ≡ upto (ranged self) }
+        ensures { result ≡ line self.object (min self.start.0 262144) + self.length }
     {
-        self.object as usize * PageNumber::COUNT + self.start.0 + self.length as usize
+        self.first() + self.length as usize
     }
 
     // The range without its first k pages: start, length and offset move, the backing stays.
@@ -123,14 +122,12 @@ impl PageRange {
         requires { Small self }
         ensures { parts_of result ≡ front a (ranged self) }
     {
-        if a <= self.first() {
+        let first = self.first();
+        if a <= first {
             return None;
         }
-        if self.end() <= a {
-            return Some(self);
-        }
-        let n = (a - self.first()) as u32;
-        Some(self.new_from(self.start, self.offset, n))
+        let n = (self.length as usize).min(a - first);
+        Some(self.new_from(self.start, self.offset, n as u32))
     }
 
     // The part of the range from page e of the line on.
@@ -141,10 +138,7 @@ impl PageRange {
         if self.end() <= e {
             return None;
         }
-        if e <= self.first() {
-            return Some(self);
-        }
-        Some(self.shortened((e - self.first()) as u32))
+        Some(self.shortened(e.saturating_sub(self.first()) as u32))
     }
 
     // The parts of the range before page a and from page e of the line on.

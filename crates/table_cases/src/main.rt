@@ -1,4 +1,5 @@
 // Runs the functions of `page`, `table`, `range_table` and `trimming` on edge values and compares with answers written by hand from document 01. One line a case.
+// What is asked here of numbers is what those functions ask.
 #![tactic(auto)]
 
 ghost use Rattle.std.specs.Prelude.{◌≡◌, ◌+◌, ◌≤◌, ◌<◌};
@@ -240,7 +241,7 @@ fn trims() {
     report("no range, no entry", trimmed(0) == [FREE; 3]);
 }
 
-// The parts, one after another. By hand: a table of them would be one of function pointers.
+// The parts, one after another. By hand: a table of functions and a loop over it say no more than the calls.
 fn main() {
     numbers();
     cuts();

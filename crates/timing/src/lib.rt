@@ -7,7 +7,7 @@ use anyhow::Result;
 use std::time::CpuClock;
 use store::Store;
 
-// How a work is measured. Neither of the two is a lack of the other.
+// How a work is measured. By hand: neither of the two is a lack of the other.
 #[derive(Clone, Copy)]
 pub enum Mode {
     // by so many turns: how many of them went as they should
@@ -16,12 +16,13 @@ pub enum Mode {
     Time,
 }
 
-// Processor time in microseconds, and the time from one moment to a later one, at most an hour.
+// Processor time in microseconds.
 fn micros(rt: &impl CpuClock) -> u64 {
     rt.process_cpu_time()
         .map_or(0, |t| u64::try_from(t.as_micros()).unwrap_or(0))
 }
 
+// The time from one moment to a later one, at most an hour.
 pub fn between(a: u64, b: u64) -> u64
     ensures { result ≤ 3600000000 }
 {

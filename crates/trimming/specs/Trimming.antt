@@ -13,15 +13,15 @@ use Rattle.ranges.specs.Table.{named}
 use Rattle.table.specs.Table.{ranges_of}
 use Rattle.places.specs.Places.{nowhere}
 use Rattle.store.specs.declared.Store.{Store}
-use Rattle.store.specs.Trim.{kept_place}
 use Rattle.store.specs.Abs.{used}
 use Rattle.store.specs.With.{with_places}
+use Rattle.store.specs.Trim.{kept_place}
 use Rattle.window_search.specs.Windows.{met_named, Met}
 use Rattle.window_cover.specs.Intervals.{covered, shown_covered, Shown}
 
--- what the places become: of a table's first n ranges
-abbrev pub kept : List PageRange → ℕ → Place → Place
-kept rs n = kept_place (ranges_of (take n rs))
+-- what the places become, by the windows of a table's ranges
+abbrev pub kept : List PageRange → Place → Place
+kept rs = kept_place (ranges_of rs)
 
 -- a free frame's place
 is_free : (p : Place) → (eqb p.backing 0 && eqb p.index 0) ≡ true → p ≡ nowhere
@@ -47,16 +47,16 @@ pick_free : (t : Bool) (p : Place) → p ≡ nowhere → p ≡ pick t p nowhere
 pick_free true p e = refl
 pick_free false p e = e
 
-module _ (rs : List PageRange) (n : ℕ) (p : Place) where
-  pub kept_free : (eqb p.backing 0 && eqb p.index 0) ≡ true → p ≡ kept rs n p
-  kept_free e = pick_free (named p.backing p.index (ranges_of (take n rs))) p (is_free p e)
+module _ (rs : List PageRange) (p : Place) where
+  pub kept_free : (eqb p.backing 0 && eqb p.index 0) ≡ true → p ≡ kept rs p
+  kept_free e = pick_free (named p.backing p.index (ranges_of rs)) p (is_free p e)
 
   -- a window is met: the place stays
-  pub kept_met : (i : ℕ) → Met rs n p (Some i) → p ≡ kept rs n p
-  kept_met i M = rw (met_named rs n p (Some i) M)
+  pub kept_met : (i : ℕ) → Met rs p (Some i) → p ≡ kept rs p
+  kept_met i M = rw (met_named rs p (Some i) M)
 
   -- none is met: the place goes
-  pub gone_met : Met rs n p None → nowhere ≡ kept rs n p
+  pub gone_met : Met rs p None → nowhere ≡ kept rs p
   gone_met M = rw M
 
 module _ (v : Cover) (p : Place) where

@@ -1,7 +1,7 @@
 // TRIMMING: places in no window go, each frame looked at once.
 #![tactic(auto)]
 
-ghost use Rattle.std.specs.Prelude.{◌≡◌, ◌≤◌, MatchResult, length, map, take};
+ghost use Rattle.std.specs.Prelude.{◌≡◌, ◌≤◌, MatchResult, length, map};
 ghost use Rattle.table.specs.Table.{ranges_of};
 ghost use Rattle.store.specs.Abs.{used};
 ghost use Rattle.store.specs.Edits.{trimmed};
@@ -14,14 +14,14 @@ use places::Place;
 use store::Store;
 use table::PageRange;
 use window_cover::Cover;
-use window_search::{GaveUp, Windows};
+use window_search::{GaveUpAt, Windows};
 
-// Each place kept if a range has it in its window, else made nowhere. Windows are searched for in 1,024 steps, from the range that was found last; the error is the
-// frame at which no step was left, up to which that is done.
-fn trim_along(places: &mut [Place], windows: &Windows) -> Result<(), usize>
+// Each place kept if a range has it in its window, else made nowhere. Windows are searched for in 1,024 steps, from the range that was found last; where no step is
+// left, that is done up to that frame.
+fn trim_along(places: &mut [Place], windows: &Windows) -> Result<(), GaveUpAt>
     ensures { MatchResult result
-        (λ _. places.new ≡ map (kept windows.now.ranges.now windows.now.count) places.old)
-        (λ f. (f ≤ length places.old) × (places.new ≡ mapped (kept windows.now.ranges.now windows.now.count) places.old f)) }
+        (λ _. places.new ≡ map (kept windows.now.ranges.now) places.old)
+        (λ e. (e.frame ≤ length places.old) × (places.new ≡ mapped (kept windows.now.ranges.now) places.old e.frame)) }
 {
     let mut steps = 1024;
     let mut last = None;
@@ -29,9 +29,9 @@ fn trim_along(places: &mut [Place], windows: &Windows) -> Result<(), usize>
         if *p == Place::NOWHERE {
             continue;
         }
-        let Ok(found) = windows.search(last, *p, &mut steps) else {
-            return Err(f);
-        };
+        let found = windows
+            .search(last, *p, &mut steps)
+            .map_err(|_| GaveUpAt { frame: f })?;
         match found {
             Some(_) => last = found,
             None => *p = Place::NOWHERE,
@@ -62,21 +62,21 @@ fn trim_covered(places: &mut [Place], cover: &Cover)
     }
 }
 
-// The places of the first `frames` frames trimmed, by the ranges in the first `count` slots.
-fn trim_places(places: &mut [Place; 1024], frames: usize, ranges: &[PageRange; 512], count: usize)
-    requires { (frames ≤ 1024) × (count ≤ 512) }
-    ensures { places.new ≡ trimmed frames (ranges_of (take count ranges.now)) places.old }
+// The places of the first `frames` frames trimmed by the windows of the ranges. By hand: the whole array comes in. Tried: the borrow check covers no part of
+// a store's field lent beside another field, and through a slice of the whole field the proof of `trim` did not close.
+fn trim_places(places: &mut [Place; 1024], frames: usize, ranges: &[PageRange])
+    requires { (frames ≤ 1024) × (length ranges.now ≤ 512) }
+    ensures { places.new ≡ trimmed frames (ranges_of ranges.now) places.old }
 {
-    let chains = window_search::chains_of(ranges, count);
+    let chains = window_search::chains_of(ranges);
     let windows = Windows {
         ranges,
         chains: &chains,
-        count,
     };
     let places = &mut places[..frames];
-    if let Err(first) = trim_along(places, &windows) {
-        let cover = Cover::new(ranges, count);
-        trim_covered(&mut places[first..], &cover);
+    if let Err(GaveUpAt { frame }) = trim_along(places, &windows) {
+        let cover = Cover::new(ranges);
+        trim_covered(&mut places[frame..], &cover);
     }
 }
 
@@ -86,5 +86,7 @@ pub fn trim(s: &mut Store)
     requires { (s.old.frames ≤ 1024) × (s.old.count ≤ 512) }
     ensures { s.new ≡ with_places (trimmed s.old.frames (ranges_of (used s.old)) s.old.places) s.old }
 {
-    trim_places(&mut s.places, s.frames, &s.ranges, s.count);
+    let frames = s.frames;
+    let ranges = &s.ranges[..s.count];
+    trim_places(&mut s.places, frames, ranges);
 }

@@ -42,7 +42,7 @@ value_is P r i e = subst (λ o. IfSome o P) e (some_value P r i)
 -- the tests of the code, each a result whose refusal is left out
 module _ (s : Store) (o p : ℕ) where
   -- at the entry
-  pub not_entered : {T : Type 0} (r : Result T Refusal) {c : Charts} → Tried s r c → result_ok r ≡ None → (x : List ℕ) → None ≡ frame_shown s x o p
+  pub not_entered : {T : Type 0} (r : Result T Refusal) {c : T → Charts} → Tried s r c → result_ok r ≡ None → (x : List ℕ) → None ≡ frame_shown s x o p
   not_entered (Ok y) t e x = absurd (true≢false (ap is_some e))
   not_entered (Err k) t e x = refused_none s x o p (number k) (number_positive k) (tried_refuses t x (show o p))
 
@@ -56,6 +56,17 @@ module _ (s : Store) (o p : ℕ) where
       → (x : List ℕ) → length x ≡ n → 0 ≡ refusal s x (show o p)
   not_refused n (Ok y) f e x l = f x l
   not_refused n (Err k) f e x l = absurd (true≢false (sym (ap is_some e)))
+
+-- what the tests tell that let a call through: t, the store that is entered, is s, and nothing refuses the call
+pub record Shows (s t : Store) (o p n : ℕ) : Type 0 where
+  pub same : t ≡ s
+  pub passed : (x : List ℕ) → length x ≡ n → 0 ≡ refusal s x (show o p)
+
+pub shows : {T U : Type 0} (store : T → Store) (s : Store) (o p n : ℕ) (r : Result T Refusal) (k : Result U Refusal) {y : T} {z : U} → IfOk r (λ q. store q ≡ s) → result_ok r ≡ Some y
+    → ((x : List ℕ) → length x ≡ n → number_of k ≡ refusal (store y) x (show o p)) → result_ok k ≡ Some z → Shows s (store y) o p n
+shows store s o p n r k i e f g =
+    let same = value_is (λ q. store q ≡ s) r i e in
+    record { same = same; passed = not_refused s o p n k (rw same at f) g }
 
 -- what a call that is not refused knows
 pub record Accepts (s : Store) (n o p : ℕ) : Type 0 where

@@ -7,7 +7,6 @@ ghost use Rattle.view.specs.View.{frame_shown, part_of, begin_of, Inside};
 
 use charts::Charts;
 use page::PageNumber;
-use refusals::Entry;
 use store::Store;
 use table::line_of;
 
@@ -17,13 +16,9 @@ fn frame_shown(s: &Store, pool: usize, object: u32, page: PageNumber) -> Option<
     ensures inside { Inside pool result }
 {
     let mut charts = Charts::new();
-    let sound = refusals::enter(s, &mut charts).ok()?;
-    sound.show(pool, object, page).ok()?;
-    let entry = Entry {
-        sound,
-        charts: &charts,
-    };
-    let located = entry.states().pages.locate(line_of(object, page))?;
+    let entry = refusals::enter(s, &mut charts).ok()?;
+    entry.sound.show(pool, object, page).ok()?;
+    let located = entry.pages().locate(line_of(object, page))?;
     Some(located.frame)
 }
 

@@ -1,21 +1,20 @@
 // WHOLE PAGES of a store, shared with a source or left uncovered: only the table of ranges changes, and no byte.
 #![tactic(auto, using(pages::specs::Inside::inside_table))]
 
-ghost use Rattle.std.specs.Prelude.{◌≡◌, List, ℕ, ◌+◌, ◌-◌, ◌*◌, ◌≤◌, ◌<◌, min};
+ghost use Rattle.std.specs.Prelude.{◌≡◌, List, ℕ, ◌+◌, ◌-◌, ◌*◌, ◌≤◌, ◌<◌, min, map, length, take, drop};
 ghost use Rattle.ranges.specs.Range.{line};
 ghost use Rattle.ranges.specs.Search.{starts_before, ends_by};
 ghost use Rattle.book.specs.Pages as pages;
 ghost use Rattle.table.specs.Table.{Small, ranged_of};
 ghost use Rattle.store.specs.Abs.{used};
 ghost use Rattle.store.specs.Spare.{work_of};
-ghost use Rattle.store.specs.With.{with_range};
 ghost use Rattle.pages.specs.Inside.{Inside};
 ghost use Rattle.pages.specs.Any.{zeros};
-ghost use Rattle.shares.specs.Moved.{IsMoved, begins, ends, moved_range};
+ghost use Rattle.shares.specs.Moved.{IsMoved, moved_range};
 ghost use Rattle.shares.specs.Reranged.{Reranged};
 ghost use Rattle.shares.specs.Together.{Sharable, Together};
 ghost use Rattle.shares.specs.Tidied.{tidied};
-ghost use Rattle.whole_pages.specs.Laid.{Opening, Ready};
+ghost use Rattle.whole_pages.specs.Laid.{AllMet, with_parts};
 
 use page::PageNumber;
 use store::Store;
@@ -53,6 +52,23 @@ pub struct SharedPages {
     pub ghost within: { (from.0 + n ≤ 262144) × (to.0 + n ≤ 262144) },
 }
 
+impl SharedPages {
+    // Where they lie on the line.
+    fn stretch(self) -> Stretch
+        ensures first { result.first ≡ line self.source self.from.0 }
+        ensures end { result.end ≡ result.first + self.n }
+        ensures target { (result.object ≡ self.object) × (result.to.0 ≡ self.to.0) }
+    {
+        let first = line_of(self.source, self.from);
+        Stretch {
+            first,
+            end: first + self.n,
+            object: self.object,
+            to: self.to,
+        }
+    }
+}
+
 // One source range met: its part is put into the table, and nothing is trimmed. Nothing where they do not meet.
 fn share_part(s: &mut Store, r: PageRange, stretch: Stretch)
     requires inside { Inside (tidied s.old) (zeros s.old) }
@@ -72,29 +88,28 @@ fn slot_now(i: usize, at: usize, p: usize) -> usize
     if i < at { i } else { i + (p - at) }
 }
 
-// The part of a source range that is met, written as row `slot`.
-fn lay_part(s: &mut Store, slot: usize, r: PageRange, stretch: Stretch)
-    requires { (slot < 512) × (Small r) × (begins stretch.first r < ends stretch.end r) }
-    ensures { s.new ≡ with_range slot (moved_range stretch.first stretch.end stretch.object stretch.to.0 r) s.old }
+// Ranges that are met, each turned into its part.
+fn move_parts(ranges: &mut [PageRange], stretch: Stretch)
+    requires { AllMet stretch.first stretch.end ranges.old }
+    ensures { ranges.new ≡ map (moved_range stretch.first stretch.end stretch.object stretch.to.0) ranges.old }
 {
-    if let Some(part) = stretch.part_of(r) {
-        s.ranges[slot] = part;
+    for r in ranges.iter_mut() {
+        *r = stretch.part_of(*r).unwrap_or(*r);
     }
 }
 
-// The parts of the k source ranges from row `first` of the table at the start on, written as the rows from `at` on, by which the table was opened.
-fn lay_parts(s: &mut Store, at: usize, first: usize, k: usize, stretch: Stretch)
-    requires { Ready stretch.first stretch.end stretch.object stretch.to.0 at first k s.old }
-    ensures { (R : Ready stretch.first stretch.end stretch.object stretch.to.0 at first k s.old) → Opening R.store stretch.first stretch.end stretch.object stretch.to.0 at first k k s.new }
+// The parts of the k source ranges from row `from` of the table on, written as the rows from `at` on, by which the table was opened.
+fn lay_parts(s: &mut Store, at: usize, from: usize, k: usize, stretch: Stretch)
+    requires room { (length s.old.ranges ≡ 512) × (at + k ≤ 512) × (from + k ≤ 512) }
+    requires met { AllMet stretch.first stretch.end (take k (drop from s.old.ranges)) }
+    ensures { s.new ≡ with_parts at (map (moved_range stretch.first stretch.end stretch.object stretch.to.0) (take k (drop from s.old.ranges))) s.old }
 {
-    for i in 0..k {
-        let r = s.ranges[slot_now(first + i, at, at + k)];
-        lay_part(s, at + i, r, stretch);
-    }
+    s.ranges.copy_within(from..from + k, at);
+    move_parts(&mut s.ranges[at..at + k], stretch);
 }
 
 // "For each source range met", where no range has a page of the destination, which lies behind the first `at` ranges: the parts become the rows from `at` on.
-// No window is lost, so nothing is trimmed.
+// No window is lost, so nothing is trimmed. By hand: it asks what `copy_range_to_object_tree` asks.
 fn share_between(s: &mut Store, shared: SharedPages, at: usize)
     requires inside { Inside s.old (zeros s.old) }
     requires some { 0 < shared.n }
@@ -102,34 +117,25 @@ fn share_between(s: &mut Store, shared: SharedPages, at: usize)
     requires free { (at ≡ ends_by (line shared.object shared.to.0) (ranged_of (used s.old))) × (starts_before (line shared.object shared.to.0 + shared.n) (ranged_of (used s.old)) ≤ at) }
     ensures { (x : List ℕ) → Inside s.old x → Reranged s.old x (pages.sharing shared.source shared.from.0 shared.object shared.to.0 shared.n (work_of s.old x)) (line shared.object shared.to.0) s.new }
 {
-    let a = line_of(shared.source, shared.from);
-    let stretch = Stretch {
-        first: a,
-        end: a + shared.n,
-        object: shared.object,
-        to: shared.to,
-    };
+    let stretch = shared.stretch();
     let first = range_table::ends_by(s, stretch.first);
     let end = range_table::starts_before(s, stretch.end);
     let k = end - first;
-    range_table::shift(s, at, at + k);
-    lay_parts(s, at, first, k, stretch);
+    let behind = at + k;
+    range_table::shift(s, at, behind);
+    // The source is another object: its ranges all stand before the place, or all behind it.
+    let from = slot_now(first, at, behind);
+    lay_parts(s, at, from, k, stretch);
 }
 
 // "For each source range met", whatever ranges have pages of the destination. The ranges are those at the start: what is put in lies in `object`, and the
-// source's ranges stay. Places are trimmed once, at the end.
+// source's ranges stay. Places are trimmed once, at the end. By hand: it asks what `copy_range_to_object_tree` asks.
 fn share_over(s: &mut Store, shared: SharedPages)
     requires inside { Inside s.old (zeros s.old) }
     requires room { s.old.count + 2 * pages.met shared.source shared.from.0 shared.n (work_of s.old (zeros s.old)) ≤ 512 }
     ensures { (x : List ℕ) → Inside s.old x → Reranged s.old x (pages.sharing shared.source shared.from.0 shared.object shared.to.0 shared.n (work_of s.old x)) (line shared.object shared.to.0) s.new }
 {
-    let a = line_of(shared.source, shared.from);
-    let stretch = Stretch {
-        first: a,
-        end: a + shared.n,
-        object: shared.object,
-        to: shared.to,
-    };
+    let stretch = shared.stretch();
     let start = range_table::ends_by(s, stretch.first);
     let stop = range_table::starts_before(s, stretch.end);
     if stop <= start {
@@ -142,7 +148,8 @@ fn share_over(s: &mut Store, shared: SharedPages)
     trimming::trim(s);
 }
 
-// "For each source range met", whole pages are shared; uncovered ones are skipped. Mostly no range has a page of the destination.
+// "For each source range met", whole pages are shared; uncovered ones are skipped. Mostly no range has a page of the destination. By hand: the store is as it is
+// inside a call, and has room, at entry alone; a ghost field would have to be true at the return too.
 pub fn copy_range_to_object_tree(s: &mut Store, shared: SharedPages)
     requires inside { Inside s.old (zeros s.old) }
     requires room { s.old.count + 2 * pages.met shared.source shared.from.0 shared.n (work_of s.old (zeros s.old)) ≤ 512 }
@@ -158,7 +165,7 @@ pub fn copy_range_to_object_tree(s: &mut Store, shared: SharedPages)
     }
 }
 
-// "Zeroing leaves whole pages uncovered": n pages from `page` on.
+// "Zeroing leaves whole pages uncovered": n pages from `page` on. By hand, as `copy_range_to_object_tree` is: there is room at entry alone.
 pub fn uncover(s: &mut Store, object: u32, page: PageNumber, n: usize)
     requires { (Inside s.old (zeros s.old)) × (page.0 + n ≤ 262144) × (s.old.count + min 1 n ≤ 512) }
     ensures { (x : List ℕ) → Inside s.old x → Reranged s.old x (pages.uncover object page.0 n (work_of s.old x)) (line object page.0) s.new }

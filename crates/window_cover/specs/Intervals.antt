@@ -1,10 +1,14 @@
 -- Intervals of indices that the windows of ranges cover, in chains by the blocks of indices that they meet.
-use Rattle.std.specs.Prelude.{◌≡◌, refl, Bool, true, false, not, ◌&&◌, List, ℕ, zero, suc, ◌+◌, ◌-◌, ◌*◌, ◌/◌, ◌%◌, ◌^◌, ◌≤◌, ◌<◌, Option, Some, None, is_some, min, max, eqb, leb, ltb, get_or, length, replicate, set, take}
-use Rattle.std.proofs.Common.{sym, ap, ◌∙◌, div-lt_iff_lt-mul, le_refl, add-one, arith, pow_pos, get_or-set_other, get_or-set_same, eq-eqb, eqb-true, le-leb, leb-true, lt-ltb, ltb-true, ne_eqb, length-set}
+use Rattle.std.specs.Prelude.{◌≡◌, refl, Bool, true, false, not, ◌&&◌, List, [], ◌∷◌, ◌++◌, ℕ, zero, suc, ◌+◌, ◌-◌, ◌*◌, ◌/◌, ◌%◌, ◌^◌, ◌≤◌, ◌<◌, Option, Some, None, IfNone, IfSome, MatchOption, is_some, min, max, eqb, leb, ltb, get_or, length, replicate, set}
+use Rattle.std.proofs.Common.{sym, ap, ◌∙◌, div-lt_iff_lt-mul, le_refl, add-one, arith, pow_pos, get_or-set_other, get_or-set_same, eq-eqb, eqb-true, le-leb, leb-true, lt-ltb, ltb-true, ne_eqb, length-append, length-set}
 use Rattle.std.proofs.lemmas.Bool.{false≢true, not-true}
 use Rattle.std.proofs.lemmas.List.{length-replicate}
-use Rattle.std.proofs.Math.Nat.{add-div_right, div-eq_of_lt, pow-le-pow_right, pow-succ'}
+use Rattle.std.proofs.Math.Nat.{add-div_right, div-eq_of_lt, pow-le-pow_right, pow-succ', zero-div}
 use Rattle.std.proofs.Math.Pow.{shr_mono}
+use Rattle.std.proofs.Math.Logic.{∥∥₁_elim}
+use Rattle.std.proofs.Props.{props}
+use Rattle.std.proofs.Math.Seq.{get_or-append_seam}
+use Rattle.std.proofs.Math.ListN.{get_or-append}
 use Rattle.places.specs.declared.Place.{Place}
 use Rattle.table.specs.declared.PageRange.{PageRange}
 use Rattle.window_cover.specs.declared.Interval.{Interval}
@@ -13,9 +17,10 @@ use Rattle.lists.specs.Test.{pick, and_left, and_right, by-eq, by-lt, by-test}
 use Rattle.lists.specs.Every.{all_below, at_below, below_fails, none_both}
 use Rattle.ranges.specs.Table.{named}
 use Rattle.table.specs.Table.{number_of, ranges_of, zero_range}
-use Rattle.chains.specs.Chains.{Chained, chained_alike, chained_next, in_chain, last_below, last_le}
+use Rattle.chains.specs.Chains.{Chained, chained_alike, chained_next, in_chain, last_below}
+use Rattle.chains.specs.Entries.{entries, entries_first, entries_none, entries_over}
 use Rattle.chains.specs.Walk.{Along, along_at, along_less, along_next, onward}
-use Rattle.window_search.specs.Windows.{chains_none, in_window, outside, windows_told}
+use Rattle.window_search.specs.Windows.{chains_none, in_window, outside, windows_all}
 use Rattle.charts.specs.Charts.{chain_by}
 
 -- the place lies in the interval
@@ -34,49 +39,51 @@ united a b = record { backing = a.backing; first = min a.first b.first; end = ma
 abbrev pub key_of : ℕ → ℕ → ℕ → ℕ
 key_of b k c = (b % 1024 * 633 + k * 101 + (c + c / 1024)) % 1024
 
+abbrev pub count : Cover → ℕ
+count v = length v.intervals.items
+
 abbrev pub interval_at : Cover → ℕ → Interval
-interval_at v c = get_or v.intervals c (record { backing = 0; first = 0; end = 0 })
+interval_at v c = get_or v.intervals.items c (record { backing = 0; first = 0; end = 0 })
 
 -- the place lies in one of the intervals
 abbrev pub covered : Cover → Place → Bool
-covered v p = not (all_below (λ c. not (within (interval_at v c) p)) v.count)
+covered v p = not (all_below (λ c. not (within (interval_at v c) p)) (count v))
 
 -- the intervals are in chains
 pub record Filed (chain : ℕ → ℕ) (v : Cover) : Type 0 where
-  pub few : v.count ≤ 1024
-  pub intervals : length v.intervals ≡ 1024
+  pub few : count v ≤ 1024
   pub heads : length v.chains.heads ≡ 1024
   pub next : length v.chains.next ≡ 1024
   pub sizes : length v.sizes ≡ 34
-  pub chained : Chained chain v.count v.chains.heads v.chains.next
+  pub chained : Chained chain (count v) v.chains.heads v.chains.next
 
 -- the slot of an interval of chain h that passes a test, or none where none of the chain does
 abbrev pub First : (Interval → Bool → Type 0) → (ℕ → ℕ) → Cover → ℕ → Option ℕ → Type 0
-First T chain v h None = (c : ℕ) → c < v.count → chain c ≡ h → T (interval_at v c) false
-First T chain v h (Some i) = (i < v.count) × (chain i ≡ h) × T (interval_at v i) true
+First T chain v h None = (c : ℕ) → c < count v → chain c ≡ h → T (interval_at v c) false
+First T chain v h (Some i) = (i < count v) × (chain i ≡ h) × T (interval_at v i) true
 
 -- every place of the intervals passes the test
 abbrev pub Pass : (Place → Bool) → Cover → Type 0
-Pass P v = (c : ℕ) → c < v.count → (p : Place) → within (interval_at v c) p ≡ true → P p ≡ true
+Pass P v = (c : ℕ) → c < count v → (p : Place) → within (interval_at v c) p ≡ true → P p ≡ true
 
 -- the intervals of v became those of w: none shrank or left its chain, and all their places are old ones or lie in interval a
 pub record Grown (c d : ℕ → ℕ) (v w : Cover) (a : Interval) : Type 0 where
-  pub more : v.count ≤ w.count
-  pub same : (k : ℕ) → k < v.count → d k ≡ c k
-  pub wider : (k : ℕ) → k < v.count → (p : Place) → within (interval_at v k) p ≡ true → within (interval_at w k) p ≡ true
+  pub more : count v ≤ count w
+  pub same : (k : ℕ) → k < count v → d k ≡ c k
+  pub wider : (k : ℕ) → k < count v → (p : Place) → within (interval_at v k) p ≡ true → within (interval_at w k) p ≡ true
   pub sound : (P : Place → Bool) → Pass P v → ((p : Place) → within a p ≡ true → P p ≡ true) → Pass P w
 
 -- an interval of chain h has every place of a
 pub record Held (chain : ℕ → ℕ) (v : Cover) (h : ℕ) (a : Interval) : Type 0 where
   pub at : ℕ
-  pub below : at < v.count
+  pub below : at < count v
   pub key : chain at ≡ h
   pub wide : (p : Place) → within a p ≡ true → within (interval_at v at) p ≡ true
 
 -- the interval was put into chain h
 pub record Put (chain : ℕ → ℕ) (v w : Cover) (h : ℕ) (a : Interval) : Type 0 where
   pub chains : ℕ → ℕ
-  pub few : w.count ≤ v.count + 1
+  pub few : count w ≤ count v + 1
   pub filed : Filed chains w
   pub sizes : w.sizes ≡ v.sizes
   pub grown : Grown chain chains v w a
@@ -89,7 +96,7 @@ pub record Entered (chain : ℕ → ℕ) (v w : Cover) (a : Interval) : Type 0 w
   pub small : size < 34
   pub flag : get_or w.sizes size false ≡ true
   pub flags : (k : ℕ) → get_or v.sizes k false ≡ true → get_or w.sizes k false ≡ true
-  pub few : w.count ≤ v.count + 2
+  pub few : count w ≤ count v + 2
   pub filed : Filed chains w
   pub grown : Grown chain chains v w a
   pub held : (j : ℕ) → a.first ≤ j → j < a.end → Held chains w (key_of a.backing size (j / 2 ^ size)) a
@@ -100,16 +107,16 @@ pub record Entry (chain : ℕ → ℕ) (v : Cover) (p : Place) : Type 0 where
   pub small : size < 34
   pub flag : get_or v.sizes size false ≡ true
   pub at : ℕ
-  pub below : at < v.count
+  pub below : at < count v
   pub key : chain at ≡ key_of p.backing size (p.index / 2 ^ size)
   pub has : within (interval_at v at) p ≡ true
 
 -- the intervals are those of the windows of the first m ranges
 pub record Covers (rs : List PageRange) (m : ℕ) (v : Cover) : Type 0 where
   pub chain : ℕ → ℕ
-  pub few : v.count ≤ m + m
+  pub few : count v ≤ m + m
   pub filed : Filed chain v
-  pub inside : (c : ℕ) → c < v.count → (p : Place) → within (interval_at v c) p ≡ true → all_below (outside rs p) m ≡ false
+  pub inside : (c : ℕ) → c < count v → (p : Place) → within (interval_at v c) p ≡ true → all_below (outside rs p) m ≡ false
   pub entry : (i : ℕ) (p : Place) → i < m → in_window rs p i ≡ true → Entry chain v p
 
 -- each place of the intervals is found
@@ -126,14 +133,19 @@ Shown v p (Some a) = (within a p ≡ true) × ((q : Place) → within a q ≡ tr
 -- no interval has place p, in the chain of its block of one of the first k sizes
 pub record Missed (v : Cover) (p : Place) (k : ℕ) : Type 0 where
   pub none : (j : ℕ) → j < k → get_or v.sizes j false ≡ true → (chain : ℕ → ℕ) → Filed chain v
-      → (c : ℕ) → c < v.count → chain c ≡ key_of p.backing j (p.index / 2 ^ j) → within (interval_at v c) p ≡ false
+      → (c : ℕ) → c < count v → chain c ≡ key_of p.backing j (p.index / 2 ^ j) → within (interval_at v c) p ≡ false
 
 -- ---- the walk along a chain
 -- no interval of the chain from link k on passes the test
 pub record Sought (T : Interval → Bool → Type 0) (v : Cover) (h k : ℕ) : Type 0 where
-  pub low : k ≤ 1024
-  pub along : (chain : ℕ → ℕ) → Filed chain v → Along chain h v.chains.next v.count k
-  pub over : (chain : ℕ → ℕ) → Filed chain v → (c : ℕ) → k ≤ c → c < v.count → chain c ≡ h → T (interval_at v c) false
+  pub along : (chain : ℕ → ℕ) → Filed chain v → Along chain h v.chains.next (count v) k
+  pub over : (chain : ℕ → ℕ) → Filed chain v → (c : ℕ) → k ≤ c → c < count v → chain c ≡ h → T (interval_at v c) false
+
+-- the walk has the entries `rest` before it
+pub record Ahead (T : Interval → Bool → Type 0) (v : Cover) (h : ℕ) (rest : List ℕ) : Type 0 where
+  pub link : ℕ
+  pub sought : Sought T v h link
+  pub is : rest ≡ entries v.chains.next link
 
 -- above the last number with a property has none it
 last_over : (P : ℕ → Bool) (n c : ℕ) → last_below P n ≤ c → c < n → P c ≡ false
@@ -145,40 +157,65 @@ last_over P (suc n) c l h =
     (λ e. by-eq c n (λ q. rw q e) (λ q. last_over P n c (rw e at l) (omega arith)))
 
 module _ (T : Interval → Bool → Type 0) (v : Cover) (h : ℕ) where
-  pub sought_start : h < 1024 → (chain : ℕ → ℕ) → Filed chain v → Sought T v h (get_or v.chains.heads h 0)
-  sought_start b chain F = record {
-    low = omega (arith, F.few, F.chained.heads h b, last_le (in_chain chain h) v.count);
-    along = λ d G. along_at d h v.chains.next v.count v.count (get_or v.chains.heads h 0) G.chained.next b (le_refl v.count) (G.chained.heads h b);
+  pub sought_start : h < 1024 → Sought T v h (get_or v.chains.heads h 0)
+  sought_start b = record {
+    along = λ d G. along_at d h v.chains.next (count v) (count v) (get_or v.chains.heads h 0) G.chained.next b (le_refl (count v)) (G.chained.heads h b);
     over = λ d G c l u e.
-        absurd (false≢true (sym (last_over (in_chain d h) v.count c (omega (arith, G.chained.heads h b)) u) ∙ eq-eqb (d c) h e));
+        absurd (false≢true (sym (last_over (in_chain d h) (count v) c (omega (arith, G.chained.heads h b)) u) ∙ eq-eqb (d c) h e));
   }
 
   -- at slot i
-  module _ (i : ℕ) (S : Sought T v h (i + 1)) (chain : ℕ → ℕ) (F : Filed chain v) where
-    pub sought_less : get_or v.chains.next i 0 ≤ i
-    sought_less = let q : i + 1 - 1 ≡ i = omega arith in let l = rw q at (along_less chain h v.chains.next v.count (i + 1) (S.along chain F) (omega arith)) in omega arith
+  module _ (i : ℕ) (S : Sought T v h (i + 1)) where
+    pub sought_less : (chain : ℕ → ℕ) → Filed chain v → get_or v.chains.next i 0 ≤ i
+    sought_less chain F = let q : i + 1 - 1 ≡ i = omega arith in let l = rw q at (along_less chain h v.chains.next (count v) (i + 1) (S.along chain F) (omega arith)) in omega arith
 
-    pub sought_next : T (interval_at v i) false → Sought T v h (get_or v.chains.next i 0)
+    pub sought_next : (i < count v → T (interval_at v i) false) → Sought T v h (min (get_or v.chains.next i 0) i)
     sought_next t = record {
-      low = omega (arith, S.low, sought_less);
-      along = λ d G. let q : i + 1 - 1 ≡ i = omega arith in rw q at (along_next d h v.chains.next v.count (i + 1) (S.along d G) (omega arith));
+      along = λ d G.
+          let q : i + 1 - 1 ≡ i = omega arith in
+          let m : min (get_or v.chains.next i 0) i ≡ get_or v.chains.next i 0 = omega (arith, sought_less d G) in
+          rw m (rw q at (along_next d h v.chains.next (count v) (i + 1) (S.along d G) (omega arith)));
       over = λ d G c l u e.
           by-lt c i
           (λ k.
           let q : i + 1 - 1 ≡ i = omega arith in
-          let o = rw q at (onward d h v.chains.next v.count (i + 1) (S.along d G) (omega arith)) in
-          absurd (false≢true (sym (last_over (in_chain d h) i c (omega arith) k) ∙ eq-eqb (d c) h e)))
-          (λ k. by-eq c i (λ q. rw q t) (λ q. S.over d G c (omega arith) u e));
+          let o = rw q at (onward d h v.chains.next (count v) (i + 1) (S.along d G) (omega arith)) in
+          absurd (false≢true (sym (last_over (in_chain d h) i c (omega (arith, o, l, sought_less d G)) k) ∙ eq-eqb (d c) h e)))
+          (λ k. by-eq c i (λ q. rw q (t (omega arith))) (λ q. S.over d G c (omega arith) u e));
     }
 
-    pub sought_hit : T (interval_at v i) true → First T chain v h (Some i)
-    sought_hit t =
+    pub sought_hit : T (interval_at v i) true → (chain : ℕ → ℕ) → Filed chain v → First T chain v h (Some i)
+    sought_hit t chain F =
         let A = S.along chain F in
         let q : i + 1 - 1 ≡ i = omega arith in
         (omega (arith, A.low), eqb-true (chain i) h (rw q at (A.inside (omega arith))), t)
 
   pub sought_end : Sought T v h 0 → (chain : ℕ → ℕ) → Filed chain v → First T chain v h None
   sought_end S chain F = λ c u e. S.over chain F c (omega arith) u e
+
+  pub ahead_start : (rest : List ℕ) → h < 1024 → rest ≡ entries v.chains.next (get_or v.chains.heads h 0) → Ahead T v h rest
+  ahead_start rest b e = record { link = get_or v.chains.heads h 0; sought = sought_start b; is = e }
+
+  module _ (i : ℕ) (rest : List ℕ) (A : Ahead T v h (i ∷ rest)) where
+    first : (A.link ≡ i + 1) × (rest ≡ entries v.chains.next (min (get_or v.chains.next i 0) i))
+    first =
+        by-lt 1024 A.link
+        (λ h. let e : i ∷ rest ≡ [] = A.is ∙ entries_none v.chains.next A.link h in absurd (let z : ◌≡◌ {A = ℕ} 0 1 = cc in omega arith))
+        (λ h. entries_first v.chains.next i rest A.link A.is h)
+
+    pub ahead_next : (i < count v → T (interval_at v i) false) → Ahead T v h rest
+    ahead_next t = record { link = min (get_or v.chains.next i 0) i; sought = sought_next i (rw first.0 at A.sought) t; is = first.1 }
+
+    pub ahead_low : (chain : ℕ → ℕ) → Filed chain v → i < count v
+    ahead_low chain F = omega (arith, (A.sought.along chain F).low, first.0)
+
+    pub ahead_hit : T (interval_at v i) true → (chain : ℕ → ℕ) → Filed chain v → First T chain v h (Some i)
+    ahead_hit t = sought_hit i (rw first.0 at A.sought) t
+
+  pub ahead_end : Ahead T v h [] → (chain : ℕ → ℕ) → Filed chain v → First T chain v h None
+  ahead_end A chain F =
+      let l : A.link ≤ 1024 = omega (arith, (A.sought.along chain F).low, F.few) in
+      sought_end (rw (entries_over v.chains.next A.link A.is l) at A.sought) chain F
 
 -- ---- blocks
 -- indices less than a block apart lie in one block, or in two that adjoin
@@ -196,6 +233,12 @@ size_near a b k l m p q =
     let few : k + 1 ≤ 33 = by-lt k 33 (λ h. omega arith) (λ h. absurd (let r : 2 ^ 33 ≤ 2 ^ k = pow-le-pow_right (omega arith) h in omega arith)) in
     let z : (b - a) / 2 ^ (k + 1) ≡ 0 = div-eq_of_lt (omega arith) in
     (few, blocks_near a b (k + 1) l z)
+
+-- the same, by the logarithm where there is one
+pub size_told : (a b r : ℕ) (o : Option ℕ) (Q : ℕ → Type 0) → a ≤ b → b < 8589934592 → IfNone o (b - a ≡ 0) → IfSome o (λ k. 2 ^ k ≤ b - a) → IfSome o (λ k. b - a < 2 * 2 ^ k)
+    → MatchOption o (r ≡ 0) Q → ((k : ℕ) → Q k → r ≡ k + 1) → (r ≤ 33) × (b / 2 ^ r ≤ a / 2 ^ r + 1)
+size_told a b r None Q l u z p q e f = let w : (b - a) / 2 ^ 0 ≡ 0 = rw z (zero-div (2 ^ 0)) in rw e (omega arith, blocks_near a b 0 l w)
+size_told a b r (Some k) Q l u z p q e f = rw (f k e) (size_near a b k l u p q)
 
 -- ---- places of intervals
 pub record Within (a : Interval) (p : Place) : Type 0 where
@@ -216,11 +259,11 @@ pub by_within : (a : Interval) (p : Place) → Within a p → within a p ≡ tru
 by_within a p W = rw (eq-eqb p.backing a.backing W.backing, le-leb a.first p.index W.first, lt-ltb p.index a.end W.end)
 
 module _ (v : Cover) (p : Place) where
-  pub covered_by : (c : ℕ) → c < v.count → within (interval_at v c) p ≡ true → covered v p ≡ true
-  covered_by c h e = ap not (sym (below_fails (λ c. not (within (interval_at v c) p)) v.count c h (ap not e)))
+  pub covered_by : (c : ℕ) → c < count v → within (interval_at v c) p ≡ true → covered v p ≡ true
+  covered_by c h e = ap not (sym (below_fails (λ c. not (within (interval_at v c) p)) (count v) c h (ap not e)))
 
-  pub covered_none : ((c : ℕ) → c < v.count → within (interval_at v c) p ≡ false) → covered v p ≡ false
-  covered_none f = ap not (at_below (λ c. not (within (interval_at v c) p)) v.count (λ c h. ap not (f c h)))
+  pub covered_none : ((c : ℕ) → c < count v → within (interval_at v c) p ≡ false) → covered v p ≡ false
+  covered_none f = ap not (at_below (λ c. not (within (interval_at v c) p)) (count v) (λ c h. ap not (f c h)))
 
 -- what is shown is whether the place is covered
 pub shown_covered : (v : Cover) (p : Place) (o : Option Interval) → Shown v p o → covered v p ≡ is_some o
@@ -262,24 +305,27 @@ module _ (a b : Interval) (t : meets a b ≡ true) where
 -- ---- an interval is put into a chain
 module _ (chain : ℕ → ℕ) (v : Cover) (h : ℕ) (a : Interval) (F : Filed chain v) where
   -- interval i of the chain takes it in
-  module _ (i : ℕ) (l : i < v.count) (e : chain i ≡ h) (t : meets (interval_at v i) a ≡ true) where
+  module _ (i : ℕ) (l : i < count v) (e : chain i ≡ h) (t : meets (interval_at v i) a ≡ true) where
     abbrev widened : Cover
-    widened = record { intervals = set v.intervals i (united (interval_at v i) a); count = v.count; chains = v.chains; sizes = v.sizes }
+    widened = record { intervals = record { items = set v.intervals.items i (united (interval_at v i) a) }; chains = v.chains; sizes = v.sizes }
+
+    as_many : count widened ≡ count v
+    as_many = simp length-set refl
 
     here : interval_at widened i ≡ united (interval_at v i) a
-    here = get_or-set_same v.intervals i (united (interval_at v i) a) (record { backing = 0; first = 0; end = 0 }) (omega (arith, F.few, F.intervals))
+    here = get_or-set_same v.intervals.items i (united (interval_at v i) a) (record { backing = 0; first = 0; end = 0 }) l
 
     other : (k : ℕ) → (k ≡ i → ⊥) → interval_at widened k ≡ interval_at v k
-    other k n = get_or-set_other v.intervals i k (united (interval_at v i) a) (record { backing = 0; first = 0; end = 0 }) n
+    other k n = get_or-set_other v.intervals.items i k (united (interval_at v i) a) (record { backing = 0; first = 0; end = 0 }) n
 
     pub put_united : Put chain v widened h a
     put_united = record {
       chains = chain;
-      few = omega arith;
-      filed = record { few = F.few; intervals = simp length-set F.intervals; heads = F.heads; next = F.next; sizes = F.sizes; chained = F.chained };
+      few = omega (arith, as_many);
+      filed = record { few = omega (arith, as_many, F.few); heads = F.heads; next = F.next; sizes = F.sizes; chained = rw as_many F.chained };
       sizes = refl;
       grown = record {
-        more = le_refl v.count;
+        more = omega (arith, as_many);
         same = λ k u. refl;
         wider = λ k u p w.
             by-eq k i
@@ -288,61 +334,62 @@ module _ (chain : ℕ → ℕ) (v : Cover) (h : ℕ) (a : Interval) (F : Filed c
         sound = λ P old new k u p w.
             by-eq k i
             (λ q. united_either (interval_at v i) a t P p (rw (q, here) at w) (old i l p) (new p))
-            (λ q. old k u p (rw (other k q) at w));
+            (λ q. old k (omega (arith, as_many)) p (rw (other k q) at w));
       };
-      held = record { at = i; below = l; key = e; wide = λ p w. rw here (united_right (interval_at v i) a t p w) };
+      held = record { at = i; below = omega (arith, as_many); key = e; wide = λ p w. rw here (united_right (interval_at v i) a t p w) };
     }
 
   -- it is a new one
-  module _ (b : v.count < 1024) (u : h < 1024) where
+  module _ (b : count v < 1024) (u : h < 1024) where
     abbrev longer : Cover
     longer = record {
-      intervals = set v.intervals v.count a;
-      count = v.count + 1;
-      chains = record { heads = set v.chains.heads h (v.count + 1); next = set v.chains.next v.count (get_or v.chains.heads h 0) };
+      intervals = record { items = v.intervals.items ++ (a ∷ []) };
+      chains = record { heads = set v.chains.heads h (count v + 1); next = set v.chains.next (count v) (get_or v.chains.heads h 0) };
       sizes = v.sizes;
     }
 
+    one_more : count longer ≡ count v + 1
+    one_more = simp length-append refl
+
     abbrev after : ℕ → ℕ
-    after k = pick (eqb k v.count) h (chain k)
+    after k = pick (eqb k (count v)) h (chain k)
 
-    last : after v.count ≡ h
-    last = rw (eq-eqb v.count v.count refl)
+    last : after (count v) ≡ h
+    last = rw (eq-eqb (count v) (count v) refl)
 
-    before : (k : ℕ) → k < v.count → after k ≡ chain k
-    before k l = rw (ne_eqb k v.count (λ e. omega arith))
+    before : (k : ℕ) → k < count v → after k ≡ chain k
+    before k l = rw (ne_eqb k (count v) (λ e. omega arith))
 
-    new_one : interval_at longer v.count ≡ a
-    new_one = get_or-set_same v.intervals v.count a (record { backing = 0; first = 0; end = 0 }) (omega (arith, F.intervals))
+    new_one : interval_at longer (count v) ≡ a
+    new_one = get_or-append_seam v.intervals.items a [] (record { backing = 0; first = 0; end = 0 })
 
-    old_one : (k : ℕ) → (k ≡ v.count → ⊥) → interval_at longer k ≡ interval_at v k
-    old_one k n = get_or-set_other v.intervals v.count k a (record { backing = 0; first = 0; end = 0 }) n
+    old_one : (k : ℕ) → k < count v → interval_at longer k ≡ interval_at v k
+    old_one k l = get_or-append v.intervals.items (a ∷ []) (record { backing = 0; first = 0; end = 0 }) k l
 
     pub put_new : Put chain v longer h a
     put_new = record {
       chains = after;
-      few = le_refl (v.count + 1);
+      few = omega (arith, one_more);
       filed = record {
-        few = omega arith;
-        intervals = simp length-set F.intervals;
+        few = omega (arith, one_more);
         heads = simp length-set F.heads;
         next = simp length-set F.next;
         sizes = F.sizes;
         chained =
-            let C = chained_alike chain after v.count v.chains.heads v.chains.next (λ k l. sym (before k l)) F.chained in
-            rw last at (chained_next after v.chains.heads v.chains.next v.count C F.heads (omega (arith, F.next)) (omega (arith, last)));
+            let C = chained_alike chain after (count v) v.chains.heads v.chains.next (λ k l. sym (before k l)) F.chained in
+            rw one_more (rw last at (chained_next after v.chains.heads v.chains.next (count v) C F.heads (omega (arith, F.next)) (omega (arith, last))));
       };
       sizes = refl;
       grown = record {
-        more = omega arith;
+        more = omega (arith, one_more);
         same = before;
-        wider = λ k l p w. rw (old_one k (λ e. omega arith)) w;
+        wider = λ k l p w. rw (old_one k l) w;
         sound = λ P old new k l p w.
-            by-eq k v.count
+            by-eq k (count v)
             (λ q. new p (rw (q, new_one) at w))
-            (λ q. old k (omega arith) p (rw (old_one k q) at w));
+            (λ q. let m : k < count v = omega (arith, one_more) in old k m p (rw (old_one k m) at w));
       };
-      held = record { at = v.count; below = omega arith; key = last; wide = λ p w. rw new_one w };
+      held = record { at = count v; below = omega (arith, one_more); key = last; wide = λ p w. rw new_one w };
     }
 
 -- ---- twice
@@ -369,11 +416,11 @@ held_at chain v h g a e H = record { at = H.at; below = H.below; key = H.key ∙
 
 -- a size is marked
 abbrev pub marked : Cover → ℕ → Cover
-marked v k = record { intervals = v.intervals; count = v.count; chains = v.chains; sizes = set v.sizes k true }
+marked v k = record { intervals = v.intervals; chains = v.chains; sizes = set v.sizes k true }
 
 module _ (chain : ℕ → ℕ) (v : Cover) (k : ℕ) (F : Filed chain v) where
   pub filed_marked : Filed chain (marked v k)
-  filed_marked = record { few = F.few; intervals = F.intervals; heads = F.heads; next = F.next; sizes = simp length-set F.sizes; chained = F.chained }
+  filed_marked = record { few = F.few; heads = F.heads; next = F.next; sizes = simp length-set F.sizes; chained = F.chained }
 
   grown_unmarked : (d : ℕ → ℕ) (w : Cover) (a : Interval) → Grown chain d (marked v k) w a → Grown chain d v w a
   grown_unmarked d w a G = record { more = G.more; same = G.same; wider = G.wider; sound = G.sound }
@@ -435,14 +482,13 @@ fails_below P (suc m) h =
     (λ e. let r = fails_below P m (rw e at h) in (r.0, omega (arith, r.1), r.2))
     (λ e. (m, omega arith, e))
 
-pub covers_none : (rs : List PageRange) (v : Cover) → v.count ≡ 0 → length v.intervals ≡ 1024 → length v.sizes ≡ 34 → v.chains.heads ≡ replicate 1024 0 → v.chains.next ≡ replicate 1024 0
+pub covers_none : (rs : List PageRange) (v : Cover) → count v ≡ 0 → length v.sizes ≡ 34 → v.chains.heads ≡ replicate 1024 0 → v.chains.next ≡ replicate 1024 0
     → Covers rs 0 v
-covers_none rs v e l m h n = record {
+covers_none rs v e m h n = record {
   chain = chain_by rs;
   few = omega arith;
   filed = record {
     few = omega arith;
-    intervals = l;
     heads = ap length h ∙ length-replicate {A = ℕ} 1024 0;
     next = ap length n ∙ length-replicate {A = ℕ} 1024 0;
     sizes = m;
@@ -478,8 +524,8 @@ module _ (rs : List PageRange) (m : ℕ) (v : Cover) (C : Covers rs m v) where
         (λ c u p w. ap not (still_false (outside rs p) m (C.inside c u p w)))
         (λ p w. ap not (sym (below_fails (outside rs p) (m + 1) m (omega arith) (ap not (sym (e p) ∙ w)))))
 
-    entries : (i : ℕ) (p : Place) → i < m + 1 → in_window rs p i ≡ true → Entry E.chains w p
-    entries i p u t =
+    entered : (i : ℕ) (p : Place) → i < m + 1 → in_window rs p i ≡ true → Entry E.chains w p
+    entered i p u t =
         by-eq i m
         (λ q. here (rw q at t))
         (λ q.
@@ -515,7 +561,7 @@ module _ (rs : List PageRange) (m : ℕ) (v : Cover) (C : Covers rs m v) where
       few = omega (arith, C.few, E.few);
       filed = E.filed;
       inside = λ c u p x. not-true (all_below (outside rs p) (m + 1)) (passes c u p x);
-      entry = entries;
+      entry = entered;
     }
 
   -- ---- what all intervals say
@@ -531,11 +577,13 @@ module _ (rs : List PageRange) (m : ℕ) (v : Cover) (C : Covers rs m v) where
       let r = fails_below (outside rs p) m t in
       by-test (in_window rs p r.0) (λ e. C.entry r.0 p r.1 e) (λ e. absurd (false≢true (sym r.2 ∙ ap not e)))
 
-  pub covers_exact : (p : Place) → covered v p ≡ named p.backing p.index (ranges_of (take m rs))
-  covers_exact p =
+  pub covers_exact : m ≡ length rs → (p : Place) → covered v p ≡ named p.backing p.index (ranges_of rs)
+  covers_exact e p =
+      let w : named p.backing p.index (ranges_of rs) ≡ not (all_below (outside rs p) m) =
+      windows_all rs p ∙ ap (λ k. not (all_below (outside rs p) k)) (sym e) in
       by-test (all_below (outside rs p) m)
-      (λ t. inside_false p t ∙ sym (windows_told rs p m ∙ ap not t))
-      (λ t. let E = inside_true p t in covered_by v p E.at E.below E.has ∙ sym (windows_told rs p m ∙ ap not t))
+      (λ t. inside_false p t ∙ sym (w ∙ ap not t))
+      (λ t. let E = inside_true p t in covered_by v p E.at E.below E.has ∙ sym (w ∙ ap not t))
 
   pub covers_indexed : Indexed v
   covers_indexed = record {
@@ -563,7 +611,7 @@ module _ (v : Cover) (p : Place) where
     }
 
     -- none has it
-    pub missed_next : ((chain : ℕ → ℕ) → Filed chain v → (c : ℕ) → c < v.count → chain c ≡ key_of p.backing k (p.index / 2 ^ k) → within (interval_at v c) p ≡ false)
+    pub missed_next : ((chain : ℕ → ℕ) → Filed chain v → (c : ℕ) → c < count v → chain c ≡ key_of p.backing k (p.index / 2 ^ k) → within (interval_at v c) p ≡ false)
         → Missed v p (k + 1)
     missed_next f = record { none = λ j u t. by-eq j k (λ q. rw q f) (λ q. M.none j (omega arith) t) }
 
@@ -576,5 +624,12 @@ module _ (v : Cover) (p : Place) where
         absurd (false≢true (sym (M.none E.size E.small E.flag I.chain I.filed E.at E.below E.key) ∙ E.has)))
         (λ t. t)
 
-    pub shown_some : (c : ℕ) → c < v.count → within (interval_at v c) p ≡ true → Shown v p (Some (interval_at v c))
+    pub shown_some : (c : ℕ) → c < count v → within (interval_at v c) p ≡ true → Shown v p (Some (interval_at v c))
     shown_some c u e = (e, λ q w. covered_by v q c u w)
+
+  -- the same where there is such a way through the chains
+  pub missed_shown : ∥ Indexed v ∥₁ → Missed v p 34 → Shown v p None
+  missed_shown I M = ∥∥₁_elim I (hlevel props) (λ J. shown_none J M)
+
+  pub hit_shown : ∥ Indexed v ∥₁ → (c : ℕ) → c < count v → ((chain : ℕ → ℕ) → Filed chain v → within (interval_at v c) p ≡ true) → Shown v p (Some (interval_at v c))
+  hit_shown I c u f = (∥∥₁_elim I (hlevel props) (λ J. f J.chain J.filed), λ q w. covered_by v q c u w)

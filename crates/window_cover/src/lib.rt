@@ -2,19 +2,19 @@
 // does not grow with the ranges.
 #![tactic(auto)]
 
-ghost use Rattle.std.specs.Prelude.{◌≡◌, ℕ, false, true, ◌+◌, ◌-◌, ◌/◌, ◌^◌, ◌≤◌, ◌<◌, IfSome, MatchOption, take};
+ghost use Rattle.std.specs.Prelude.{◌≡◌, ℕ, false, true, ◌+◌, ◌-◌, ◌/◌, ◌^◌, ◌≤◌, ◌<◌, IfSome, MatchOption, length};
 ghost use Rattle.table.specs.Table.{number_of, ranges_of};
 ghost use Rattle.ranges.specs.Table.{named};
 ghost use Rattle.places.specs.declared.Place.{Place};
-ghost use Rattle.window_cover.specs.Intervals.{within, meets, united, key_of, covered, First, Filed, Put, Entered, Indexed, Shown};
+ghost use Rattle.window_cover.specs.Intervals.{within, meets, united, key_of, count, covered, First, Filed, Put, Entered, Indexed, Shown};
 
+use arrayvec::ArrayVec;
 use chains::Chains;
 use places::Place;
 use table::PageRange;
-use window_search::slot;
 
 // The indices of a backing from `first` up to `end`, exclusive.
-#[derive(Clone, Copy)]
+#[derive(Clone, Copy, Default)]
 pub struct Interval {
     pub backing: u32,
     pub first: u32,
@@ -67,10 +67,7 @@ impl Interval {
         ensures { (result ≤ 33) × ((self.end - 1) / 2 ^ result ≤ self.first / 2 ^ result + 1) }
     {
         let span = self.end - 1 - self.first as usize;
-        match span.checked_ilog2() {
-            None => 0,
-            Some(log) => log as usize + 1,
-        }
+        span.checked_ilog2().map_or(0, |log| log as usize + 1)
     }
 }
 
@@ -85,8 +82,7 @@ fn chain_of(backing: u32, size: usize, block: usize) -> usize
 // Intervals in the chains of the blocks that they meet, and which sizes of blocks there are.
 #[derive(Drop)]
 pub struct Cover {
-    pub intervals: [Interval; 1024],
-    pub count: usize,
+    pub intervals: ArrayVec<Interval, 1024>,
     pub chains: Chains,
     pub sizes: [bool; 34],
 }
@@ -95,39 +91,37 @@ impl Cover {
     // The first slot of chain h whose interval passes the test.
     fn first_of<F: Fn(Interval) -> bool>(&self, h: usize, test: F) -> Option<usize>
         requires callable { F.IsAlwaysCallable test }
-        requires filed { (h < 1024) × ((chain : ℕ → ℕ) × Filed chain self.now) }
-        ensures low { IfSome result (λ i. i < 1024) }
+        requires in_heads { h < 1024 }
+        ensures low { IfSome result (λ i. i < count self.now) }
         ensures first { (chain : ℕ → ℕ) → Filed chain self.now → First (F.post test) chain self.now h result }
     {
-        let mut at = slot(self.chains.heads[h]);
-        // by hand: a chain is of indices, since memory is fixed
-        while let Some(i) = at {
-            if test(self.intervals[i]) {
+        let intervals = self.intervals.as_slice();
+        for i in self.chains.chain(h) {
+            if test(*intervals.get(i)?) {
                 return Some(i);
             }
-            at = slot(self.chains.next[i]);
         }
         None
     }
 
     // An interval put into chain h: one that overlaps it there takes it in, or it is a new one.
     fn put(&mut self, h: usize, interval: Interval)
-        requires { (h < 1024) × (self.old.count < 1024) × ((chain : ℕ → ℕ) × Filed chain self.old) }
-        ensures { (chain : ℕ → ℕ) → Filed chain self.old → Put chain self.old self.new h interval }
+        requires { (h < 1024) × (count self.old < 1024) }
+        ensures few { count self.new ≤ count self.old + 1 }
+        ensures put { (chain : ℕ → ℕ) → Filed chain self.old → Put chain self.old self.new h interval }
     {
         match self.first_of(h, |a| a.meets(interval)) {
             Some(i) => self.intervals[i] = self.intervals[i].united(interval),
             None => {
-                self.intervals[self.count] = interval;
-                self.chains.put(h, self.count);
-                self.count += 1;
+                self.chains.put(h, self.intervals.len());
+                self.intervals.push(interval);
             }
         }
     }
 
     // The same into the chain of each block that it meets.
     fn enter(&mut self, interval: Interval)
-        requires { (interval.first < interval.end) × (interval.end < 8589934592) × (self.old.count ≤ 1022) × ((chain : ℕ → ℕ) × Filed chain self.old) }
+        requires { (interval.first < interval.end) × (interval.end < 8589934592) × (count self.old ≤ 1022) }
         ensures { (chain : ℕ → ℕ) → Filed chain self.old → Entered chain self.old self.new interval }
     {
         let size = interval.size();
@@ -140,25 +134,19 @@ impl Cover {
         }
     }
 
-    // The intervals of the windows of the ranges in the first `count` slots.
-    pub fn new(ranges: &[PageRange; 512], count: usize) -> Cover
-        requires { count ≤ 512 }
-        ensures exact { (p : Place) → covered result p ≡ named p.backing p.index (ranges_of (take count ranges.now)) }
+    // The intervals of the windows of ranges.
+    pub fn new(ranges: &[PageRange]) -> Cover
+        requires { length ranges.now ≤ 512 }
+        ensures exact { (p : Place) → covered result p ≡ named p.backing p.index (ranges_of ranges.now) }
         ensures indexed { Indexed result }
     {
-        let none = Interval {
-            backing: 0,
-            first: 0,
-            end: 0,
-        };
         let mut cover = Cover {
-            intervals: [none; 1024],
-            count: 0,
+            intervals: ArrayVec::new(),
             chains: Chains::new(),
             sizes: [false; 34],
         };
-        for i in 0..count {
-            if let Some(interval) = Interval::of(ranges[i]) {
+        for r in ranges {
+            if let Some(interval) = Interval::of(*r) {
                 cover.enter(interval);
             }
         }
@@ -167,11 +155,11 @@ impl Cover {
 
     // An interval that has the place, or none where no range has it in its window: in the chain of its block of each size.
     pub fn find(&self, place: Place) -> Option<Interval>
-        requires { Indexed self.now }
+        requires { ∥ Indexed self.now ∥₁ }
         ensures { Shown self.now place result }
     {
-        for size in 0..34 {
-            if self.sizes[size] {
+        for (size, used) in self.sizes.iter().enumerate() {
+            if *used {
                 let h = chain_of(place.backing, size, place.index as usize >> size);
                 if let Some(i) = self.first_of(h, |a| a.has(place)) {
                     return Some(self.intervals[i]);

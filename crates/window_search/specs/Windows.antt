@@ -1,8 +1,9 @@
 -- Ranges of one backing are in one chain, so that a place is looked for in the windows of its chain only.
-use Rattle.std.specs.Prelude.{◌≡◌, refl, Bool, true, false, not, ◌&&◌, ◌||◌, List, [], ◌∷◌, ◌++◌, ℕ, zero, suc, ◌+◌, ◌-◌, ◌%◌, ◌≤◌, ◌<◌, Option, Some, None, is_some, eqb, leb, get_or, length, replicate, set, take}
-use Rattle.std.proofs.Common.{sym, ap, ◌∙◌, le_refl, arith, eq-eqb, le-ltb, ne_eqb, take_all}
+use Rattle.std.specs.Prelude.{◌≡◌, refl, Bool, true, false, not, ◌&&◌, ◌||◌, List, [], ◌∷◌, ◌++◌, ℕ, zero, suc, ◌+◌, ◌-◌, ◌%◌, ◌≤◌, ◌<◌, Option, Some, None, Result, Ok, Err, IfOk, MatchResult, is_some, eqb, leb, get_or, length, replicate, set, take}
+use Rattle.std.proofs.Common.{sym, ap, ◌∙◌, le_refl, arith, eq-eqb, get_or-take, le-ltb, length-take-le, ne_eqb, take_all}
 use Rattle.std.proofs.Math.ListN.{get_or-eq_default}
-use Rattle.std.proofs.lemmas.Bool.{false≢true}
+use Rattle.std.specs.Result.{is_ok}
+use Rattle.std.proofs.lemmas.Bool.{false≢true, true≢false}
 use Rattle.std.proofs.lemmas.List.{get_or-replicate}
 use Rattle.std.proofs.Math.Seq.{take-suc}
 use mathlib.Core.List.{map, map-append}
@@ -14,10 +15,10 @@ use Rattle.lists.specs.Every.{all_below, below_fails}
 use Rattle.ranges.specs.Range.{Range}
 use Rattle.ranges.specs.Table.{named, window}
 use Rattle.table.specs.Table.{number_of, range_of, ranges_of, zero_range}
-use Rattle.places.specs.Places.{place_at}
-use Rattle.chains.specs.Chains.{chained_next, in_chain, last_below, last_le}
+use Rattle.chains.specs.Chains.{chained_alike, chained_next, in_chain, last_below, last_le}
 use Rattle.chains.specs.Walk.{Walk, link_low, walk_all, walk_end, walk_here, walk_next}
 use Rattle.charts.specs.Charts.{chain_by, RangeChains}
+use Rattle.places.specs.Places.{place_at}
 use Rattle.store.specs.Sound.{window?}
 
 -- place p lies in the window of range i
@@ -32,29 +33,24 @@ outside rs p i = not (in_window rs p i)
 abbrev pub walked? : List PageRange → List ℕ → Place → Bool
 walked? rs hs p = eqb p.backing 0 || not (all_below (outside rs p) (get_or hs (p.backing % 1024) 0))
 
--- the link to a slot, or that at the end of a chain
-abbrev pub link_of : Option ℕ → ℕ
-link_of None = 0
-link_of (Some i) = i + 1
-
 -- each link of the entries below k leads to a lower entry
 pub record Falls (ns : List ℕ) (k : ℕ) : Type 0 where
   pub down : (i : ℕ) → i < k → get_or ns i 0 ≤ i
 
--- the slot of one of the n ranges, which has place p in its window, or none
-abbrev pub Hit : List PageRange → ℕ → Place → Option ℕ → Type 0
-Hit rs n p None = Unit {0}
-Hit rs n p (Some i) = (i < n) × (in_window rs p i ≡ true)
+-- the slot of a range that has place p in its window, or none
+abbrev pub Hit : List PageRange → Place → Option ℕ → Type 0
+Hit rs p None = Unit {0}
+Hit rs p (Some i) = (i < length rs) × (in_window rs p i ≡ true)
 
 -- the slot of a range below k with place p in its window; where there is none, a walk that is at link k finds none
 abbrev pub Found : List PageRange → List ℕ → Place → ℕ → Option ℕ → Type 0
 Found rs ns p k None = (m : ℕ) → Walk ns (outside rs p) m k → all_below (outside rs p) m ≡ true
 Found rs ns p k (Some i) = (i < k) × (in_window rs p i ≡ true)
 
--- the slot of one of the first n ranges, which has place p in its window; or none, where none of them has
-abbrev pub Met : List PageRange → ℕ → Place → Option ℕ → Type 0
-Met rs n p None = named p.backing p.index (ranges_of (take n rs)) ≡ false
-Met rs n p (Some i) = (i < n) × (in_window rs p i ≡ true)
+-- the slot of a range that has place p in its window; or none, where no range has
+abbrev pub Met : List PageRange → Place → Option ℕ → Type 0
+Met rs p None = named p.backing p.index (ranges_of rs) ≡ false
+Met rs p (Some i) = (i < length rs) × (in_window rs p i ≡ true)
 
 -- ---- a walk from link k on, which is at link j
 pub record Going (rs : List PageRange) (ns : List ℕ) (p : Place) (k j : ℕ) : Type 0 where
@@ -98,7 +94,7 @@ chains_next rs n h c d q C l m b e = rw (e, q) (chained_next (chain_by rs) c.hea
 -- ---- the walk along the chain of a backing
 module _ (rs : List PageRange) (n : ℕ) (c : Chains) (C : RangeChains rs n c) where
   -- a range outside of the chain has another backing
-  walk_windows : (p : Place) → Walk c.next (outside rs p) n (get_or c.heads (p.backing % 1024) 0)
+  pub walk_windows : (p : Place) → Walk c.next (outside rs p) n (get_or c.heads (p.backing % 1024) 0)
   walk_windows p = walk_all (chain_by rs) c.heads c.next n C (outside rs p) (p.backing % 1024) (omega arith) other
     where
       other : (j : ℕ) → j < n → in_chain (chain_by rs) (p.backing % 1024) j ≡ false → outside rs p j ≡ true
@@ -109,7 +105,7 @@ module _ (rs : List PageRange) (n : ℕ) (c : Chains) (C : RangeChains rs n c) w
           (λ e. rw (ne_eqb p.backing b e))
 
   -- the ranges of the chain of p say what all ranges say
-  pub chain_all : (p : Place) → all_below (outside rs p) (get_or c.heads (p.backing % 1024) 0) ≡ all_below (outside rs p) n
+  chain_all : (p : Place) → all_below (outside rs p) (get_or c.heads (p.backing % 1024) 0) ≡ all_below (outside rs p) n
   chain_all p = (walk_windows p).same
 
   -- what a range in whose window p lies says of the chain of its backing
@@ -146,6 +142,10 @@ module _ (rs : List PageRange) where
       none true false = refl
       none false b = refl
 
+  -- so a range with a window is one of the table
+  pub in_table : (p : Place) (i : ℕ) → in_window rs p i ≡ true → i < length rs
+  in_table p i e = by-lt i (length rs) (λ h. h) (λ h. absurd (false≢true (sym (beyond p i h) ∙ e)))
+
   -- the first k ranges have the place in a window, if it is not outside of each
   pub windows_told : (p : Place) (k : ℕ) → named p.backing p.index (ranges_of (take k rs)) ≡ not (all_below (outside rs p) k)
   unfolding named ranges_of all_below
@@ -167,16 +167,25 @@ module _ (rs : List PageRange) where
       either true a = refl
       either false a = refl
 
-module _ (rs : List PageRange) (n : ℕ) where
-  -- what is met is what all windows answer
-  pub met_named : (p : Place) (o : Option ℕ) → Met rs n p o → named p.backing p.index (ranges_of (take n rs)) ≡ is_some o
-  met_named p None e = e
-  met_named p (Some i) e = windows_told rs p n ∙ ap not (sym (below_fails (outside rs p) n i e.0 (ap not e.1)))
+  -- so have all
+  pub windows_all : (p : Place) → named p.backing p.index (ranges_of rs) ≡ not (all_below (outside rs p) (length rs))
+  windows_all p =
+      ap (λ (l : List PageRange). named p.backing p.index (ranges_of l)) (sym (take_all (length rs) rs (le_refl (length rs))))
+      ∙ windows_told p (length rs)
 
-  module _ (c : Chains) (C : RangeChains rs n c) where
-    -- what the walk answers is what all windows answer
+  -- what is met is what all windows answer
+  pub met_named : (p : Place) (o : Option ℕ) → Met rs p o → named p.backing p.index (ranges_of rs) ≡ is_some o
+  met_named p None e = e
+  met_named p (Some i) e = windows_all p ∙ ap not (sym (below_fails (outside rs p) (length rs) i e.0 (ap not e.1)))
+
+  -- a range has it
+  pub windowed : (p : Place) (i : ℕ) → in_window rs p i ≡ true → named p.backing p.index (ranges_of rs) ≡ true
+  windowed p i e = met_named p (Some i) (in_table p i e, e)
+
+  module _ (n : ℕ) (c : Chains) (C : RangeChains rs n c) where
+    -- what the walk answers is what the windows of the first n ranges answer
     pub walk_named : (p : Place) → named p.backing p.index (ranges_of (take n rs)) ≡ not (all_below (outside rs p) (get_or c.heads (p.backing % 1024) 0))
-    walk_named p = windows_told rs p n ∙ ap not (sym (chain_all rs n c C p))
+    walk_named p = windows_told p n ∙ ap not (sym (chain_all rs n c C p))
 
     pub window_walked : (p : Place) → walked? rs c.heads p ≡ window? (ranges_of (take n rs)) p
     window_walked p = rw (walk_named p)
@@ -184,17 +193,36 @@ module _ (rs : List PageRange) (n : ℕ) where
     pub walks_windows : (ps : List Place) (k : ℕ) → all_below (λ f. walked? rs c.heads (place_at ps f)) k ≡ all_below (λ f. window? (ranges_of (take n rs)) (place_at ps f)) k
     walks_windows ps k = λ j. all_below (λ f. window_walked (place_at ps f) j) k
 
+  -- no range has the place in its window
+  pub met_none : (p : Place) → all_below (outside rs p) (length rs) ≡ true → Met rs p None
+  met_none p e = windows_all p ∙ ap not e
+
+  module _ (c : Chains) (C : RangeChains rs (length rs) c) where
     -- what a walk from the head of the chain finds
-    pub met_head : (p : Place) (o : Option ℕ) → Found rs c.next p (get_or c.heads (p.backing % 1024) 0) o → Met rs n p o
+    pub met_head : (p : Place) (o : Option ℕ) → Found rs c.next p (get_or c.heads (p.backing % 1024) 0) o → Met rs p o
     met_head p None F =
-        let W = walk_windows rs n c C p in
-        walk_named p ∙ ap not (F (get_or c.heads (p.backing % 1024) 0) (walk_here c.next (outside rs p) n (get_or c.heads (p.backing % 1024) 0) W))
-    met_head p (Some i) F = (let l = head_low rs n c C (p.backing % 1024) (omega arith) in let h = F.0 in omega arith, F.1)
+        let W = walk_windows rs (length rs) c C p in
+        met_none p (sym (chain_all rs (length rs) c C p) ∙ F (get_or c.heads (p.backing % 1024) 0) (walk_here c.next (outside rs p) (length rs) (get_or c.heads (p.backing % 1024) 0) W))
+    met_head p (Some i) F = (in_table p i F.1, F.1)
 
     -- the chain has no range
-    pub met_empty : (p : Place) → get_or c.heads (p.backing % 1024) 0 ≡ 0 → Met rs n p None
+    pub met_empty : (p : Place) → get_or c.heads (p.backing % 1024) 0 ≡ 0 → Met rs p None
     met_empty p e = met_head p None (λ m W. sym (walk_end c.next (outside rs p) m (get_or c.heads (p.backing % 1024) 0) W (omega arith)))
 
 -- ---- all frames
 pub walked_free : (rs : List PageRange) (hs : List ℕ) (ps : List Place) (f : ℕ) → (place_at ps f).backing ≤ 0 → walked? rs hs (place_at ps f) ≡ true
 walked_free rs hs ps f h = let e : (place_at ps f).backing ≡ 0 = omega arith in rw (eq-eqb (place_at ps f).backing 0 e)
+
+-- ---- the ranges in the first slots
+-- their chains are those of them as a slice
+pub chains_in_use : (rs : List PageRange) (n : ℕ) (c : Chains) → n ≤ length rs → RangeChains rs n c → RangeChains (take n rs) (length (take n rs)) c
+chains_in_use rs n c h C =
+    let same : (k : ℕ) → k < n → chain_by rs k ≡ chain_by (take n rs) k =
+    λ k l. ap (λ (r : PageRange). number_of r.backing % 1024) (sym (get_or-take n rs k zero_range l)) in
+    rw (length-take-le n rs h) (chained_alike (chain_by rs) (chain_by (take n rs)) n c.heads c.next same C)
+
+-- ---- a result whose error is another
+-- what was said of its value is said of the same value
+pub kept_ok : {T D E : Type 0} (s : Result T E) (r : Result T D) (x : T) (Q : E → Type 0) (P : T → Type 0) → MatchResult s (λ y. r ≡ Ok y) Q → is_ok r ≡ is_ok s → r ≡ Ok x → IfOk s P → P x
+kept_ok (Ok y) r x Q P m v e p = let k : Ok y ≡ Ok x = sym m ∙ e in let q : y ≡ x = cc in rw q at p
+kept_ok (Err z) r x Q P m v e p = absurd (true≢false (sym (ap is_ok e) ∙ v))

@@ -1,6 +1,7 @@
 // WHAT IS MEASURED, turn after turn, by the public calls alone. Each function says how many turns went as they should. A turn that changes the store
 // starts from the same store as the turn before: what it leaves is dropped. Record 30 has no page; where it takes no part, its name comes and goes, so that
-// no turn is like the one before.
+// no turn is like the one before. By hand: each work is handed `s`, `pool` and `times`, the store, the page memory and how many turns, as a line of a program
+// has them; a struct of them would be made anew at each call, and for that call alone.
 #![tactic(auto)]
 
 ghost use Rattle.std.specs.Prelude.{◌*◌, ◌≤◌, ◌<◌, length};
@@ -22,7 +23,7 @@ fn toggle(s: &mut Store, change: u32) {
     s.live ^= change;
 }
 
-// How many of so many turns, numbered from 0, went as they should.
+// How many of so many turns, numbered from 0, went as they should. By hand: tried, `filter` and `count` over a closure that is handed in did not prove.
 fn turns<F: FnMut(&Store, usize) -> bool>(
     s: &Store,
     change: u32,
@@ -42,7 +43,8 @@ fn turns<F: FnMut(&Store, usize) -> bool>(
 }
 
 // ---- the fixed cost of a call
-// One copy of the store a turn, to one place and to the other; what is there at the end is looked at.
+// One copy of the store a turn, to one place and to the other; what is there at the end is looked at. By hand: the index chooses one of two places, and goes
+// through none.
 pub fn copied(s: &Store, times: usize) -> usize {
     let mut t = *s;
     let mut two = [t; 2];

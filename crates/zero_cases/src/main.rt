@@ -1,23 +1,18 @@
 // Runs zeroing of bytes, of pages that are private, absent or shared. Answers are written by hand from document 01. One line a case.
 #![tactic(auto)]
 
-ghost use Rattle.std.specs.Prelude.{◌+◌, ◌≤◌};
-
 use access_samples::{
-    extent, five, frames, halves, high, holed, leaves, paged, read_is, small, thirds,
+    extent, filled, five, frames, halves, holed, leaves, paged, read_is, thirds, twice, twice_cut,
 };
 use copy_samples::{uncovers, zero, zeroes};
-use samples::{FREE, place, private, report, shared, single};
+use samples::{private, report, shared};
 
 // ---- bytes of pages
 // n bytes at one place of the pool and m at another are zero then; the store stays, and no frame is free.
-fn clears(name: &str, offset: usize, n: usize, at: usize, m: usize, then: usize)
-    requires { (at + n ≤ 20480) × (then + m ≤ 20480) }
-{
-    let mut want = five();
-    pool::fill(&mut want, at, n, 0);
-    pool::fill(&mut want, then, m, 0);
-    zeroes(name, paged(), extent(0, offset, n + m), paged(), &want);
+fn clears(name: &str, offset: usize, n: usize, at: usize, m: usize, then: usize) {
+    let want = filled(filled(five(), at, n, 0), then, m, 0);
+    let bytes = extent(0, offset, n.saturating_add(m));
+    zeroes(name, paged(), bytes, paged(), &want);
 }
 
 fn bytes() {
@@ -65,8 +60,7 @@ fn bytes_holed() {
 fn bytes_shared() {
     let mut pool = five();
     let r = zero(halves(), &mut pool, extent(1, 24586, 2));
-    let mut want = frames(&[1, 2, 4, 4, 5]);
-    pool::fill(&mut want, 8202, 2, 0);
+    let want = filled(frames(&[1, 2, 4, 4, 5]), 8202, 2, 0);
     report(
         "bytes of a shared page",
         leaves(r, thirds()) && pool == want,
@@ -82,23 +76,19 @@ fn bytes_shared() {
 
 // Pages 0 and 1 of object 0 are the same page: the first is copied, the second is private by then.
 fn bytes_twice() {
-    let a = [single(0, 0, 1, 0, 1), single(0, 1, 1, 0, 1)];
-    let s = small(3, &a, &high(FREE, place(1, 0)), 15);
-    let b = [single(0, 0, 1, 0, 2), single(0, 1, 1, 0, 1)];
-    let t = small(3, &b, &high(place(2, 0), place(1, 0)), 7);
     let mut want = frames(&[1, 2, 3, 5, 5]);
     want[16383] = 0;
     want[16384] = 0;
     zeroes(
         "a page that is private when it is reached",
-        s,
+        twice(),
         extent(0, 4095, 2),
-        t,
+        twice_cut(),
         &want,
     );
 }
 
-// The parts, one after another. By hand: a table of them would be one of function pointers.
+// The parts, one after another. By hand: a table of functions and a loop over it say no more than the calls.
 fn main() {
     bytes();
     no_bytes();

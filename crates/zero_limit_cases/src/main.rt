@@ -1,18 +1,17 @@
 // Runs zeroing where it is refused, and where the last frame or the last slot is taken. Answers are written by hand from document 01. One line a case.
 #![tactic(auto)]
 
-ghost use Rattle.std.specs.Prelude.{◌≤◌};
-
-use access_samples::{extent, five, frames, halves, high, paged, small, spoiled_halves};
-use copy_samples::{packed, rows, uncovers, zero_refused, zeroes};
+use access_samples::{
+    extent, filled, five, frames, halves, high, paged, shared_full, small, spoiled_halves,
+    twice_full,
+};
+use copy_samples::{packed, packed_full, rows, uncovers, zero_refused, zeroes};
 use refusals::{Extent, Refusal};
-use samples::{FREE, full, full_table, many, place, report, single};
+use samples::{FREE, full, many, place, ranged, report, seated, single};
 use store::Store;
 
 // ---- the table of refusals, where the first n bytes of a pool of sevens are lent: the pool stays
-fn refused(name: &str, s: Store, n: usize, extent: Extent, why: Refusal)
-    requires { n ≤ 24576 }
-{
+fn refused(name: &str, s: Store, n: usize, extent: Extent, why: Refusal) {
     report(name, zero_refused(s, n, extent, why));
 }
 
@@ -78,8 +77,7 @@ fn one_free() {
     );
     let p = [FREE, place(2, 0), FREE, FREE, place(1, 0)];
     let t = small(3, &[many(0, 0, 1, 0, 1), b], &p, 13);
-    let mut want = five();
-    pool::fill(&mut want, 20384, 96, 0);
+    let want = filled(five(), 20384, 96, 0);
     let part = extent(0, 4000, 8288);
     zeroes("part of one, one frame free", s, part, t, &want);
 }
@@ -97,33 +95,19 @@ fn no_frame() {
 
 // Page 0 of both objects in frame 4, the other frames in use.
 fn no_frame_shared() {
-    let (b, c) = (single(1, 0, 1, 0, 1), many(1, 9, 4, 0, 2));
-    let p = [
-        place(2, 0),
-        place(2, 1),
-        place(2, 2),
-        place(2, 3),
-        place(1, 0),
-    ];
-    let s = small(3, &[single(0, 0, 1, 0, 1), b, c], &p, 0);
+    let s = shared_full();
     let byte = extent(0, 5, 1);
     turned("8: a byte of a shared page", s, byte, Refusal::NoFrame);
-    let t = small(3, &[b, c], &p, 0);
+    let t = small(3, &s.ranges[1..3], &s.places, 0);
     let page = extent(0, 0, 4096);
     uncovers("no frame free: a whole shared page", s, page, t);
 }
 
 // Pages 0 and 1 of object 0 are the same page, and frame 3 alone is free.
 fn no_frame_twice() {
-    let a = [
-        single(0, 0, 1, 0, 1),
-        single(0, 1, 1, 0, 1),
-        many(0, 100, 3, 0, 2),
-    ];
-    let p = [place(2, 0), place(2, 1), place(2, 2), FREE, place(1, 0)];
     turned(
         "8: two pages count that would take one frame",
-        small(1, &a, &p, 8),
+        twice_full(1, 0),
         extent(0, 4095, 2),
         Refusal::NoFrame,
     );
@@ -142,15 +126,13 @@ fn no_slot() {
     let bytes = extent(0, 4101, 3);
     uncovers("512 ranges: bytes of an uncovered page", s, bytes, s);
     uncovers("512 ranges: nothing zeroed", s, extent(0, 0, 0), s);
-    let t = small(3, &full_table(), &paged().places, 0);
     let part = extent(0, 0, 4106);
-    turned("8 comes before 9", t, part, Refusal::NoFrame);
+    turned("8 comes before 9", packed_full(), part, Refusal::NoFrame);
 }
 
 fn no_slot_private() {
-    let mut s = packed();
-    s.ranges[0] = single(0, 0, 1, 0, 2);
-    s.places[4] = place(2, 0);
+    let s = ranged(packed(), 0, single(0, 0, 1, 0, 2));
+    let s = seated(s, 4, place(2, 0), 15);
     let mut want = five();
     want[16389] = 0;
     let byte = extent(0, 5, 1);
@@ -208,7 +190,7 @@ fn three_slots() {
     );
 }
 
-// The parts, one after another. By hand: a table of them would be one of function pointers.
+// The parts, one after another. By hand: a table of functions and a loop over it say no more than the calls.
 fn main() {
     table_store();
     table_object();

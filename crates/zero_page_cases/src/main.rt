@@ -2,7 +2,8 @@
 #![tactic(auto)]
 
 use access_samples::{
-    adds, bare, extent, five, frames, halves, high, holed, paged, read_is, small,
+    adds, bare, extent, filled, five, frames, halves, high, holed, paged, read_is, small,
+    three_pages, two_pages,
 };
 use copy_samples::{uncovers, zeroes};
 use samples::{FREE, absent, many, place, private, report, single};
@@ -33,28 +34,20 @@ fn whole_ten() {
     adds("its frames are the next call's", t, 1, 0, 3, t_then);
 }
 
-// Pages 0, 1 and 2 of object 0 in frames 4, 3 and 2.
-fn three() -> Store {
-    let p = [FREE, FREE, place(1, 2), place(1, 1), place(1, 0)];
-    small(3, &[many(0, 0, 3, 0, 1)], &p, 3)
-}
-
 // Page 0 of object 0 is left, in frame 4.
 fn first_left() -> Store {
     small(3, &[many(0, 0, 1, 0, 1)], &high(FREE, place(1, 0)), 15)
 }
 
 fn whole_front() {
-    let s = three();
+    let s = three_pages();
     let a = [many(0, 0, 1, 0, 1), many(0, 2, 1, 2, 1)];
     let p = [FREE, FREE, place(1, 2), FREE, place(1, 0)];
     let t = small(3, &a, &p, 11);
     let middle = extent(0, 4096, 4096);
     uncovers("the front of the only range stays", s, middle, t);
-    let p = high(place(1, 1), place(1, 0));
-    let t = small(3, &[many(0, 0, 2, 0, 1)], &p, 7);
     let last = extent(0, 8192, 4096);
-    uncovers("and with its end zeroed", s, last, t);
+    uncovers("and with its end zeroed", s, last, two_pages());
     let p = [FREE, FREE, place(1, 2), place(1, 1), FREE];
     let t = small(3, &[many(0, 1, 2, 1, 1)], &p, 19);
     uncovers("its end stays", s, extent(0, 0, 4096), t);
@@ -62,10 +55,9 @@ fn whole_front() {
 
 // Page 1 erased, then page 2 added: the range 0 to 1 is extended over page 1.
 fn whole_extended() {
-    let p = high(place(1, 1), place(1, 0));
-    let s = small(3, &[many(0, 0, 2, 0, 1)], &p, 7);
     let t = first_left();
-    uncovers("page 1 of two zeroed", s, extent(0, 4096, 4096), t);
+    let page = extent(0, 4096, 4096);
+    uncovers("page 1 of two zeroed", two_pages(), page, t);
     let p = high(place(1, 2), place(1, 0));
     let u = small(3, &[many(0, 0, 3, 0, 1)], &p, 7);
     adds("page 2 extends the range", t, 0, 2, 3, u);
@@ -116,22 +108,26 @@ fn parts() {
     let a = [many(0, 0, 1, 0, 1), single(0, 2, 1, 0, 2)];
     let p = [FREE, place(2, 0), FREE, FREE, place(1, 0)];
     let t = small(3, &a, &p, 13);
-    let mut want = frames(&[1, 3, 3, 4, 5]);
-    pool::fill(&mut want, 20384, 96, 0);
-    pool::fill(&mut want, 4096, 10, 0);
+    let want = filled(frames(&[1, 3, 3, 4, 5]), 20384, 96, 0);
+    let want = filled(want, 4096, 10, 0);
     let parts = extent(0, 4000, 4202);
-    zeroes("a page between parts of two", three(), parts, t, &want);
+    zeroes(
+        "a page between parts of two",
+        three_pages(),
+        parts,
+        t,
+        &want,
+    );
     report("(0, 0) is private", private(t, 0, 0));
     report("(0, 2) is private", private(t, 0, 2));
     uncovers("parts of nothing", bare(), parts, bare());
 }
 
 fn part_before() {
-    let mut want = five();
-    pool::fill(&mut want, 20384, 96, 0);
+    let want = filled(five(), 20384, 96, 0);
     zeroes(
         "part of a page and those behind it",
-        three(),
+        three_pages(),
         extent(0, 4000, 8288),
         first_left(),
         &want,
@@ -141,18 +137,17 @@ fn part_before() {
 fn part_behind() {
     let p = [FREE, FREE, place(1, 2), FREE, FREE];
     let t = small(3, &[many(0, 2, 1, 2, 1)], &p, 27);
-    let mut want = five();
-    pool::fill(&mut want, 8192, 10, 0);
+    let want = filled(five(), 8192, 10, 0);
     zeroes(
         "two pages and part of the next",
-        three(),
+        three_pages(),
         extent(0, 0, 8202),
         t,
         &want,
     );
 }
 
-// The parts, one after another. By hand: a table of them would be one of function pointers.
+// The parts, one after another. By hand: a table of functions and a loop over it say no more than the calls.
 fn main() {
     whole_ten();
     whole_front();

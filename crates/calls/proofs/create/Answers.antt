@@ -1,5 +1,5 @@
 -- `calls::create` meets its contract.
-use Rattle.std.proofs.Common.{◌≡◌, true, false, sym, ◌∙◌, rules}
+use Rattle.std.proofs.Common.{◌≡◌, true, false, rules}
 use Rattle.std.specs.Prelude.{leb, ◌&&◌}
 use Rattle.calls.specs.Made.{made, not_made}
 use Rattle.calls.proofs.create.Goals as goal

@@ -19,12 +19,12 @@ returns-in_err-shadow c =
     let a = c.args in
     let e = c.in_err-shadow in
     let q : c.from_residual-in_err-shadow.result ≡ Err e.field-0.0 = search rules in
-    rw q (with_decline (shadow a.source a.from a.object a.to a.n) a.s a.pool.now done (λ j. refl) e.field-0.0 (rw c.in_ok-enter.ensures.same at (e.ensures a.pool.now refl)))
+    rw q (with_decline (shadow a.source a.from a.object a.to a.n) a.s a.pool.now done (λ j. refl) e.field-0.0 (rw c.in_ok-enter.ensures.same at (e.ensures.number a.pool.now refl)))
 
 pub invariant_of-shared : goal.invariant_of-shared
 invariant_of-shared c =
     let a = c.args in
-    let r = rw c.in_ok-enter.ensures.same at (c.in_ok-shadow.ensures a.pool.now refl) in
+    let r = rw c.in_ok-enter.ensures.same at (c.in_ok-shadow.ensures.number a.pool.now refl) in
     let p : c.from_offset.result.0 ≡ a.from / 4096 = c.from_offset.ensures in
     let g : c.from_offset-2.result.0 ≡ a.to / 4096 = c.from_offset-2.ensures in
     let q = shadow_enters a.s a.pool.now c.enter.ensures.tried.sized a.source a.from a.object a.to a.n r in
@@ -33,7 +33,7 @@ invariant_of-shared c =
 pub copy_range_to_object_tree-requires-clause-inside : goal.copy_range_to_object_tree-requires-clause-inside
 copy_range_to_object_tree-requires-clause-inside c =
     let a = c.args in
-    let r = rw c.in_ok-enter.ensures.same at (c.in_ok-shadow.ensures a.pool.now refl) in
+    let r = rw c.in_ok-enter.ensures.same at (c.in_ok-shadow.ensures.number a.pool.now refl) in
     let p : c.from_offset.result.0 ≡ a.from / 4096 = c.from_offset.ensures in
     let g : c.from_offset-2.result.0 ≡ a.to / 4096 = c.from_offset-2.ensures in
     let q = shadow_enters a.s a.pool.now c.enter.ensures.tried.sized a.source a.from a.object a.to a.n r in
@@ -42,7 +42,7 @@ copy_range_to_object_tree-requires-clause-inside c =
 pub copy_range_to_object_tree-requires-clause-room : goal.copy_range_to_object_tree-requires-clause-room
 copy_range_to_object_tree-requires-clause-room c =
     let a = c.args in
-    let r = rw c.in_ok-enter.ensures.same at (c.in_ok-shadow.ensures a.pool.now refl) in
+    let r = rw c.in_ok-enter.ensures.same at (c.in_ok-shadow.ensures.number a.pool.now refl) in
     let p : c.from_offset.result.0 ≡ a.from / 4096 = c.from_offset.ensures in
     let g : c.from_offset-2.result.0 ≡ a.to / 4096 = c.from_offset-2.ensures in
     let q = shadow_enters a.s a.pool.now c.enter.ensures.tried.sized a.source a.from a.object a.to a.n r in
@@ -51,7 +51,7 @@ copy_range_to_object_tree-requires-clause-room c =
 pub renew-requires : goal.renew-requires
 renew-requires c =
     let a = c.args in
-    let r = rw c.in_ok-enter.ensures.same at (c.in_ok-shadow.ensures a.pool.now refl) in
+    let r = rw c.in_ok-enter.ensures.same at (c.in_ok-shadow.ensures.number a.pool.now refl) in
     let p : c.from_offset.result.0 ≡ a.from / 4096 = c.from_offset.ensures in
     let g : c.from_offset-2.result.0 ≡ a.to / 4096 = c.from_offset-2.ensures in
     let q = shadow_enters a.s a.pool.now c.enter.ensures.tried.sized a.source a.from a.object a.to a.n r in
@@ -60,7 +60,7 @@ renew-requires c =
 pub returns : goal.returns
 returns c =
     let a = c.args in
-    let r = rw c.in_ok-enter.ensures.same at (c.in_ok-shadow.ensures a.pool.now refl) in
+    let r = rw c.in_ok-enter.ensures.same at (c.in_ok-shadow.ensures.number a.pool.now refl) in
     let p : c.from_offset.result.0 ≡ a.from / 4096 = c.from_offset.ensures in
     let g : c.from_offset-2.result.0 ≡ a.to / 4096 = c.from_offset-2.ensures in
     let q = shadow_enters a.s a.pool.now c.enter.ensures.tried.sized a.source a.from a.object a.to a.n r in

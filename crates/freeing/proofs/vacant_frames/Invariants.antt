@@ -1,6 +1,6 @@
 -- The loop's invariant: the places before `p` are counted.
 use Rattle.std.proofs.Common.{◌≡◌, count_by, take}
-use Rattle.freeing.specs.Closed.{is_vacant}
+use Rattle.places.specs.Places.{is_vacant}
 use Rattle.freeing.proofs.vacant_frames.Given as goal
 
 abbrev pub invariant-loop-p : goal.invariant-loop-p

@@ -1,7 +1,10 @@
--- `hexadecimal::encode`: the first digits are those of the first i bytes; a turn stores two more (`encode_turn`).
-use Rattle.std.proofs.Common.{◌≡◌, ◌*◌, take}
+-- `hexadecimal::encode`: the digits so far are those of the first bytes; a turn adds two more (`encode_turn`).
+use Rattle.std.proofs.Common.{◌≡◌, ◌*◌, length, take}
 use Rattle.hexadecimal.specs.Hex.{digits_of}
 use Rattle.hexadecimal.proofs.encode.Given as goal
 
-abbrev pub invariant-loop-i : goal.invariant-loop-i
-invariant-loop-i l = take (2 * l.i) l.digits ≡ digits_of (take l.i l.bytes)
+abbrev pub invariant-loop-b : goal.invariant-loop-b
+invariant-loop-b g l = record {
+  room : length l.digits.items ≡ 2 * l.b-index;
+  digits : l.digits.items ≡ digits_of (take l.b-index l.bytes);
+}

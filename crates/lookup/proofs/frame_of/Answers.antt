@@ -1,39 +1,56 @@
-use Rattle.std.proofs.Common.{ap, sym, ◌∙◌, not, ◌-◌, arith, rules, length, ◌≡◌}
-use Rattle.chains.specs.Walk.{walk_end, walk_less, walk_next}
+use Rattle.std.proofs.Common.{ap, sym, ◌∙◌, [], not, arith, rules, length, ◌≡◌}
+use Rattle.chains.specs.Entries.{left_all, left_end, left_low, left_next}
 use Rattle.lookup.specs.Charted.{found_none, found_there, lacks, walk_frames}
 use Rattle.lookup.proofs.frame_of.Goals as goal
 
-pub loop-link-init : goal.loop-link-init
-loop-link-init c =
+pub loop-frame-init : goal.loop-frame-init
+loop-frame-init c =
     let a = c.args in
-    rw c.chain_to.ensures (walk_frames a.s.now.places a.s.now.frames a.charts.now.frames a.backing a.index c.requires.0)
+    record {
+      can_next = tt;
+      is_finite = tt;
+      left = rw c.into_iter-frame-iterator.ensures.into_iter_gives
+          (left_all a.charts.now.frames.next (lacks a.s.now.places a.backing a.index) a.s.now.frames _ c.chain-frame-items.result c.requires.1
+          (rw c.chain_to.ensures (walk_frames a.s.now.places a.s.now.frames a.charts.now.frames a.backing a.index c.requires.0)) c.chain-frame-items.ensures);
+    }
+
+pub bounds-s-frame : goal.bounds-s-frame
+bounds-s-frame c =
+    let a = c.args in
+    let r = c.requires.1 in
+    let l = left_low a.charts.now.frames.next (lacks a.s.now.places a.backing a.index) a.s.now.frames c.in-Some.frame _ (rw c.in-Some.ensures.steps at c.loop-frame.invariant.left) in
+    omega arith
+
+pub offset_bounds-s-frame : goal.offset_bounds-s-frame
+offset_bounds-s-frame c =
+    let a = c.args in
+    let r = c.requires.1 in
+    let l = left_low a.charts.now.frames.next (lacks a.s.now.places a.backing a.index) a.s.now.frames c.in-Some.frame _ (rw c.in-Some.ensures.steps at c.loop-frame.invariant.left) in
+    record { fits = omega arith }
 
 pub returns-then-stands_at : goal.returns-then-stands_at
 returns-then-stands_at c =
     let a = c.args in
     let s = a.s.now in
-    let l = c.loop-link in
     let n : length s.places ≡ 1024 = search rules in
-    let w = l.invariant.low in
     let f = c.requires.1 in
-    found_there s.places s.frames a.backing a.index (omega arith) c.requires.2.alone (l.link - 1) (omega arith) (sym c.stands_at.ensures ∙ c.if-stands_at.true)
+    found_there s.places s.frames a.backing a.index (omega arith) c.requires.2.alone c.in-Some.frame
+    (left_low a.charts.now.frames.next (lacks s.places a.backing a.index) s.frames c.in-Some.frame _ (rw c.in-Some.ensures.steps at c.loop-frame.invariant.left))
+    (sym c.stands_at.ensures ∙ c.if-stands_at.true)
 
-pub loop-link-smaller : goal.loop-link-smaller
-loop-link-smaller c =
-    let s = c.args.s.now in
-    let l = c.loop-link in
-    walk_less c.args.charts.now.frames.next (lacks s.places c.args.backing c.args.index) s.frames l.link l.invariant (search rules)
-
-pub loop-link-preserved : goal.loop-link-preserved
-loop-link-preserved c =
-    let s = c.args.s.now in
-    let l = c.loop-link in
-    walk_next c.args.charts.now.frames.next (lacks s.places c.args.backing c.args.index) s.frames l.link l.invariant (search rules)
-    (ap not (sym c.stands_at.ensures ∙ c.if-stands_at.false))
+pub loop-frame-preserved : goal.loop-frame-preserved
+loop-frame-preserved c =
+    let a = c.args in
+    record {
+      can_next = tt;
+      is_finite = tt;
+      left = left_next a.charts.now.frames.next (lacks a.s.now.places a.backing a.index) a.s.now.frames c.in-Some.frame _
+          (rw c.in-Some.ensures.steps at c.loop-frame.invariant.left) (ap not (sym c.stands_at.ensures ∙ c.if-stands_at.false));
+    }
 
 pub returns : goal.returns
 returns c =
-    let s = c.args.s.now in
-    let l = c.loop-link in
-    found_none s.places s.frames c.args.backing c.args.index
-    (walk_end c.args.charts.now.frames.next (lacks s.places c.args.backing c.args.index) s.frames l.link l.invariant (search rules))
+    let a = c.args in
+    let e : c.loop-frame.frame-iterator ≡ [] = search rules in
+    found_none a.s.now.places a.s.now.frames a.backing a.index
+    (left_end a.charts.now.frames.next (lacks a.s.now.places a.backing a.index) a.s.now.frames (rw e at c.loop-frame.invariant.left))

@@ -11,20 +11,20 @@ use Rattle.lookup.proofs.locate_by.Goals as goal
 pub offset_bounds-s-slot : goal.offset_bounds-s-slot
 offset_bounds-s-slot g c =
     let s = c.args.s.now in
-    let T = c.requires.table.0 in
+    let T = c.requires.table in
     let C = covered_at s.ranges s.count T c.args.g c.in-Some.slot (sym c.in-Some.ensures) in
     record { fits = omega (arith, T.few, C.inside) }
 
 pub bounds-s-slot : goal.bounds-s-slot
 bounds-s-slot g c =
     let s = c.args.s.now in
-    let T = c.requires.table.0 in
+    let T = c.requires.table in
     omega (arith, T.few, (covered_at s.ranges s.count T c.args.g c.in-Some.slot (sym c.in-Some.ensures)).inside)
 
 pub in_range-requires-clause-page : goal.in_range-requires-clause-page
 in_range-requires-clause-page g c =
     let s = c.args.s.now in
-    let T = c.requires.table.0 in
+    let T = c.requires.table in
     let C = covered_at s.ranges s.count T c.args.g c.in-Some.slot (sym c.in-Some.ensures) in
     (T.small c.in-Some.slot C.inside, C.low, C.high)
 

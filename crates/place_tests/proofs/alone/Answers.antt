@@ -1,32 +1,47 @@
-use Rattle.std.proofs.Common.{◌-◌, not, sym, ap, ◌∙◌}
-use Rattle.chains.specs.Walk.{walk_end, walk_hit, walk_less, walk_next}
+use Rattle.std.proofs.Common.{rules, [], ◌≡◌, arith, not, sym, ap, ◌∙◌}
+use Rattle.chains.specs.Entries.{left_all, left_end, left_hit, left_low, left_next}
 use Rattle.store.specs.Sound.{alone?}
 use Rattle.place_tests.specs.Alone.{apart_from, apart_stands, walk_alone}
 use Rattle.place_tests.proofs.alone.Goals as goal
 
 pub loop-earlier-init : goal.loop-earlier-init
-loop-earlier-init c = walk_alone c.args.s.now.places c.args.f c.requires.used c.args.chains.now.next c.requires.linked
+loop-earlier-init c =
+    record {
+      can_next = tt;
+      is_finite = tt;
+      left = rw c.into_iter-earlier-iterator.ensures.into_iter_gives
+          (left_all c.args.chains.now.next (apart_from c.args.s.now.places c.args.f) c.args.f _ c.before-earlier-items.result (omega (arith, c.requires.in_table)) (walk_alone c.args.s.now.places c.args.f c.requires.used c.args.chains.now.next c.requires.linked) c.before-earlier-items.ensures);
+    }
+
+pub bounds-s-earlier : goal.bounds-s-earlier
+bounds-s-earlier c =
+    let r = c.requires.in_table in
+    let l = left_low c.args.chains.now.next (apart_from c.args.s.now.places c.args.f) c.args.f c.in-Some.earlier _ (rw c.in-Some.ensures.steps at c.loop-earlier.invariant.left) in
+    omega arith
+
+pub offset_bounds-s-earlier : goal.offset_bounds-s-earlier
+offset_bounds-s-earlier c =
+    let r = c.requires.in_table in
+    let l = left_low c.args.chains.now.next (apart_from c.args.s.now.places c.args.f) c.args.f c.in-Some.earlier _ (rw c.in-Some.ensures.steps at c.loop-earlier.invariant.left) in
+    record { fits = omega arith }
 
 pub returns-then-stands_at : goal.returns-then-stands_at
 unfolding alone?
 returns-then-stands_at c =
-    let ps = c.args.s.now.places in
-    let l = c.loop-earlier in
-    let q = apart_stands ps c.args.f c.requires.used (l.earlier - 1) ∙ ap not (sym c.stands_at.ensures ∙ c.if-stands_at.true) in
-    walk_hit c.args.chains.now.next (apart_from ps c.args.f) c.args.f l.earlier l.invariant c.loop-earlier-test.true q
-
-pub loop-earlier-smaller : goal.loop-earlier-smaller
-loop-earlier-smaller c =
-    let l = c.loop-earlier in walk_less c.args.chains.now.next (apart_from c.args.s.now.places c.args.f) c.args.f l.earlier l.invariant c.loop-earlier-test.true
+    left_hit c.args.chains.now.next (apart_from c.args.s.now.places c.args.f) c.args.f c.in-Some.earlier _ (rw c.in-Some.ensures.steps at c.loop-earlier.invariant.left)
+    (apart_stands c.args.s.now.places c.args.f c.requires.used c.in-Some.earlier ∙ ap not (sym c.stands_at.ensures ∙ c.if-stands_at.true))
 
 pub loop-earlier-preserved : goal.loop-earlier-preserved
 loop-earlier-preserved c =
-    let ps = c.args.s.now.places in
-    let l = c.loop-earlier in
-    let q = apart_stands ps c.args.f c.requires.used (l.earlier - 1) ∙ ap not (sym c.stands_at.ensures ∙ c.if-stands_at.false) in
-    walk_next c.args.chains.now.next (apart_from ps c.args.f) c.args.f l.earlier l.invariant c.loop-earlier-test.true q
+    record {
+      can_next = tt;
+      is_finite = tt;
+      left = left_next c.args.chains.now.next (apart_from c.args.s.now.places c.args.f) c.args.f c.in-Some.earlier _ (rw c.in-Some.ensures.steps at c.loop-earlier.invariant.left)
+          (apart_stands c.args.s.now.places c.args.f c.requires.used c.in-Some.earlier ∙ ap not (sym c.stands_at.ensures ∙ c.if-stands_at.false));
+    }
 
 pub returns : goal.returns
 unfolding alone?
 returns c =
-    let l = c.loop-earlier in walk_end c.args.chains.now.next (apart_from c.args.s.now.places c.args.f) c.args.f l.earlier l.invariant c.loop-earlier-test.false
+    let e : c.loop-earlier.earlier-iterator ≡ [] = search rules in
+    left_end c.args.chains.now.next (apart_from c.args.s.now.places c.args.f) c.args.f (rw e at c.loop-earlier.invariant.left)

@@ -1,11 +1,11 @@
--- The frames below `f` pass, and are chained.
-use Rattle.std.proofs.Common.{◌≡◌}
+-- The frames before frame `first + k` pass, and are chained.
+use Rattle.std.proofs.Common.{◌≡◌, ◌+◌}
+use Rattle.store.specs.Abs.{used}
 use Rattle.place_tests.specs.Placed.{Seated}
 use Rattle.place_tests.proofs.seat_frames.Given as goal
 
-abbrev pub invariant-loop-f : goal.invariant-loop-f
-invariant-loop-f l = record {
-  seated : Seated l.s l.f l.chains;
-  ranges : l.seeking.windows.ranges.now ≡ l.s.ranges;
-  count : l.seeking.windows.count ≡ l.s.count;
+abbrev pub invariant-loop-k : goal.invariant-loop-k
+invariant-loop-k g l = record {
+  seated : Seated l.s (l.first + l.k) l.chains;
+  ranges : g.F.Finder.ranges l.finder ≡ used l.s;
 }

@@ -1,36 +1,32 @@
 -- `covering` meets its contract: of the ranges that begin by the page, the last may reach past it.
-use Rattle.std.proofs.Common.{◌+◌, ◌-◌, arith}
-use Rattle.table.specs.Searching.{starts_count, none_before, covers_it, ends_short}
+use Rattle.std.proofs.Common.{◌≡◌, sym, ◌∙◌, arith}
+use Rattle.ranges.specs.Range.{upto}
+use Rattle.store.specs.With.{range_at}
+use Rattle.table.specs.Table.{ranged}
+use Rattle.range_table.proofs.Recursions.{picked_some}
+use Rattle.table.specs.Searching.{last_covers, last_few, last_none}
 use Rattle.range_table.proofs.covering.Goals as goal
-use Rattle.range_table.proofs.covering.Goals.{else-n-gt0-via-then-n-gt0+else-g-end, else-n-gt0-via-else-n-gt0}
 
-pub offset_bounds-s-n : goal.offset_bounds-s-n
-offset_bounds-s-n c =
+pub returns-in_err-k : goal.returns-in_err-k
+returns-in_err-k c =
     let s = c.args.s.now in
-    let k = starts_count s.ranges s.count c.requires.0 (c.args.g + 1) in
-    record { fits = omega (arith, c.requires.0.few) }
+    c.from_residual.ensures ∙ sym (last_none s.ranges s.count c.requires c.args.g (sym c.last_by.ensures ∙ c.in_err-k.was))
 
-pub bounds-s-n : goal.bounds-s-n
-bounds-s-n c =
+pub offset_bounds-s-k : goal.offset_bounds-s-k
+offset_bounds-s-k c =
     let s = c.args.s.now in
-    omega (arith, c.requires.0.few, starts_count s.ranges s.count c.requires.0 (c.args.g + 1))
+    record { fits = omega (arith, c.requires.few, last_few s.ranges s.count c.requires c.args.g c.in_ok-k.k (sym c.last_by.ensures ∙ c.in_ok-k.was)) }
 
-pub end-requires : goal.end-requires
-end-requires c =
+pub bounds-s-k : goal.bounds-s-k
+bounds-s-k c =
     let s = c.args.s.now in
-    let k = starts_count s.ranges s.count c.requires.0 (c.args.g + 1) in
-    c.requires.0.small (c.starts_before-n.result - 1) (omega arith)
-
-pub returns-then-g-end : goal.returns-then-g-end
-returns-then-g-end c =
-    let s = c.args.s.now in
-    covers_it s.ranges s.count c.requires.0 c.args.g c.starts_before-n.result c.starts_before-n.ensures (λ e. omega arith) (omega arith)
+    omega (arith, c.requires.few, last_few s.ranges s.count c.requires c.args.g c.in_ok-k.k (sym c.last_by.ensures ∙ c.in_ok-k.was))
 
 pub returns : goal.returns
 returns c =
     let s = c.args.s.now in
-    let n = c.starts_before-n.result in
-    elim c.else-n-gt0.branch [
-      | else-n-gt0-via-then-n-gt0+else-g-end w ↦ ends_short s.ranges s.count c.requires.0 c.args.g n c.starts_before-n.ensures (λ e. omega arith) (omega arith)
-      | else-n-gt0-via-else-n-gt0 w ↦ none_before s.ranges s.count c.requires.0 c.args.g n c.starts_before-n.ensures (omega arith)
-    ]
+    let k = c.in_ok-k.k in
+    let found = sym c.last_by.ensures ∙ c.in_ok-k.was in
+    let ends = (c.requires.small k (last_few s.ranges s.count c.requires c.args.g k found)).ends in
+    let e : c.end.result ≡ upto (ranged (range_at s k)) = omega (arith, c.end.ensures, ends) in
+    c.then_some.ensures ∙ rw e (picked_some _ k) ∙ sym (last_covers s.ranges s.count c.requires c.args.g k found)

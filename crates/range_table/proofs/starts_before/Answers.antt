@@ -1,33 +1,13 @@
-use Rattle.std.proofs.Common.{ℕ, ◌+◌, ◌-◌, ◌/◌, arith}
-use Rattle.table.specs.Searching.{low_more, high_more, starts_found}
+-- `starts_before` meets its contract: the ranges of the table begin one after the other, so that halving finds those before the page.
+use Rattle.std.proofs.Common.{ltb, rules}
+use Rattle.std.specs.List.Sorted.{IsPartitionedBy}
+use Rattle.std.proofs.lemmas.List.Sorted.{IsPartitionPoint-from_clause}
+use Rattle.table.specs.Searching.{begins, parted_before, point_before}
 use Rattle.range_table.proofs.starts_before.Goals as goal
-
-pub loop-low-preserved-then-first-g : goal.loop-low-preserved-then-first-g
-loop-low-preserved-then-first-g c =
-    let s = c.args.s.now in
-    let l = c.loop-low in
-    let m : ℕ = l.low + (l.high - l.low) / 2 in
-    record {
-      ordered = omega arith;
-      within = omega arith;
-      before = low_more s.ranges s.count c.requires c.args.g m (omega arith) (omega arith);
-      behind = l.invariant.behind;
-    }
-
-pub loop-low-preserved : goal.loop-low-preserved
-loop-low-preserved c =
-    let s = c.args.s.now in
-    let l = c.loop-low in
-    let m : ℕ = l.low + (l.high - l.low) / 2 in
-    record {
-      ordered = omega arith;
-      within = omega arith;
-      before = l.invariant.before;
-      behind = high_more s.ranges s.count c.requires c.args.g m (omega arith);
-    }
 
 pub returns : goal.returns
 returns c =
     let s = c.args.s.now in
-    let l = c.loop-low in
-    starts_found s.ranges s.count c.requires c.args.g l.low (omega arith) l.invariant.before (λ k h m. l.invariant.behind k (omega arith) m)
+    let parted : IsPartitionedBy (λ r. ltb (begins r) c.args.g) c.used.result.now = rw c.used.ensures.rows (parted_before s.ranges s.count c.requires c.args.g) in
+    let point = IsPartitionPoint-from_clause (λ r. ltb (begins r) c.args.g) _ _ c.partition_point.ensures.partitioned parted (λ a r q k. search rules) in
+    point_before s.ranges s.count c.requires c.args.g _ (rw c.used.ensures.rows at c.partition_point.ensures.bound) (rw c.used.ensures.rows at point)

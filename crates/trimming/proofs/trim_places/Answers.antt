@@ -11,5 +11,5 @@ returns-in-Err c =
     let H = c.in-Err.ensures in
     let P = a.places.now in
     ap (λ (l : List Place). l ++ drop a.frames P)
-    (mapped_rest_too (kept a.ranges.now a.count) (kept_covered c.new-cover.result) (λ p. ap (λ t. pick t p nowhere) (c.new-cover.ensures.exact p))
-    (take a.frames P) c.trim_along.new.places c.trim_covered.new.places c.in-Err.first H.0 H.1 c.trim_covered.ensures)
+    (mapped_rest_too (kept a.ranges.now) (kept_covered c.new-cover.result) (λ p. ap (λ t. pick t p nowhere) (c.new-cover.ensures.exact p))
+    (take a.frames P) c.trim_along.new.places c.trim_covered.new.places c.in-Err.field-0.frame H.0 H.1 c.trim_covered.ensures)

@@ -1,4 +1,4 @@
-use Rattle.std.proofs.Common.{◌≡◌, ℕ, ◌+◌, ◌-◌, ◌≤◌, ◌<◌, refl, subst, ◌∙◌, get_or, take, drop, get_or-take, get_or-drop, length, length-drop, length-take-le, arith}
+use Rattle.std.proofs.Common.{◌≡◌, ℕ, ◌+◌, ◌-◌, ◌≤◌, ◌<◌, subst, ◌∙◌, get_or, take, drop, get_or-take, get_or-drop, length, length-drop, length-take-le, arith}
 use Rattle.std.proofs.lemmas.List.{length-take}
 use Rattle.store.specs.declared.Store.{Store}
 use Rattle.store.specs.With.{range_at}
@@ -13,8 +13,9 @@ pub returns-then-stop-start : goal.returns-then-stop-start
 returns-then-stop-start c =
     let a = c.args in
     let P = c.requires in
-    sharing_none a.s.now a.shared.source a.shared.from.0 a.shared.object a.shared.to.0 a.shared.n _ c.line_of-a.ensures P.inside P.room _ _
-    c.starts_before-stop.ensures c.if-stop-start.true c.ends_by-start.ensures
+    let E = c.stretch-stretch.ensures in
+    sharing_none a.s.now a.shared.source a.shared.from.0 a.shared.object a.shared.to.0 a.shared.n _ E.first P.inside P.room _ _
+    (rw E.end at c.starts_before-stop.ensures) c.if-stop-start.true c.ends_by-start.ensures
 
 pub offset_bounds-ranges-start : goal.offset_bounds-ranges-start
 offset_bounds-ranges-start c =
@@ -33,7 +34,8 @@ loop-r-init c =
     let a = c.args in
     let P = c.requires in
     let z : c.ends_by-start.result + 0 ≡ c.ends_by-start.result = omega arith in
-    rw z (sharing_first a.s.now a.shared.source a.shared.from.0 a.shared.object a.shared.to.0 a.shared.n _ c.line_of-a.ensures P.inside P.room _ c.ends_by-start.ensures)
+    let E = c.stretch-stretch.ensures in
+    rw (z, E.end, E.target.0, E.target.1) (sharing_first a.s.now a.shared.source a.shared.from.0 a.shared.object a.shared.to.0 a.shared.n _ E.first P.inside P.room _ c.ends_by-start.ensures)
 
 -- a range that the loop comes to is one of the table at the start
 from_start : (s : Store) (f k i : ℕ) → i < k → get_or (take k (drop f s.ranges)) i zero_range ≡ range_at s (f + i)
@@ -44,7 +46,8 @@ share_part-requires-clause-sharable c =
     let a = c.args in
     let s = a.s.now in
     let P = c.requires in
-    let g = c.line_of-a in
+    let g = c.stretch-stretch.result in
+    let E = c.stretch-stretch.ensures in
     let l = c.loop-r in
     let f = c.ends_by-start.result in
     let e = c.starts_before-stop.result in
@@ -53,8 +56,8 @@ share_part-requires-clause-sharable c =
     let b : l.r-index < e - f = omega (arith, length-take (e - f) (drop f s.ranges), c.loop-r-test.true) in
     let h : f + l.r-index < s.count = omega arith in
     let r = from_start s f (e - f) l.r-index b in (
-      rw r (sharing_small s g.result (g.result + a.shared.n) a.shared.object a.shared.to.0 P.inside (f + l.r-index) t l.invariant h),
-      rw r (sharing_sharable s g.result (g.result + a.shared.n) a.shared.object a.shared.to.0 P.inside (f + l.r-index) t l.invariant h a.shared.source a.shared.from.0 a.shared.n g.ensures refl a.shared.within.0 a.shared.apart),
+      rw r (sharing_small s g.first g.end g.object g.to.0 P.inside (f + l.r-index) t l.invariant h),
+      rw r (sharing_sharable s g.first g.end g.object g.to.0 P.inside (f + l.r-index) t l.invariant h a.shared.source a.shared.from.0 a.shared.n E.first E.end a.shared.within.0 (λ z. a.shared.apart (z ∙ E.target.0))),
     )
 
 pub loop-r-preserved : goal.loop-r-preserved
@@ -62,7 +65,8 @@ loop-r-preserved c =
     let a = c.args in
     let s = a.s.now in
     let P = c.requires in
-    let g = c.line_of-a in
+    let g = c.stretch-stretch.result in
+    let E = c.stretch-stretch.ensures in
     let l = c.loop-r in
     let f = c.ends_by-start.result in
     let e = c.starts_before-stop.result in
@@ -72,15 +76,16 @@ loop-r-preserved c =
     let b : l.r-index < e - f = omega (arith, length-take (e - f) (drop f s.ranges), c.loop-r-test.true) in
     let h : f + l.r-index < s.count = omega arith in
     let z : f + (l.r-index + 1) ≡ f + l.r-index + 1 = omega arith in
-    let T = subst (λ r. Together t g.result (g.result + a.shared.n) a.shared.object a.shared.to.0 r u) (from_start s f (e - f) l.r-index b) c.share_part.ensures in
-    rw z (sharing_turn s g.result (g.result + a.shared.n) a.shared.object a.shared.to.0 P.inside (f + l.r-index) t l.invariant h u T)
+    let T = subst (λ r. Together t g.first g.end g.object g.to.0 r u) (from_start s f (e - f) l.r-index b) c.share_part.ensures in
+    rw z (sharing_turn s g.first g.end g.object g.to.0 P.inside (f + l.r-index) t l.invariant h u T)
 
 pub returns : goal.returns
 returns c =
     let a = c.args in
     let s = a.s.now in
     let P = c.requires in
-    let g = c.line_of-a in
+    let g = c.stretch-stretch.result in
+    let E = c.stretch-stretch.ensures in
     let l = c.loop-r in
     let f = c.ends_by-start.result in
     let e = c.starts_before-stop.result in
@@ -89,4 +94,4 @@ returns c =
     let b : e ≤ f + l.r-index = omega arith in
     let h : f + l.r-index ≤ s.count = omega (arith, l.auto.r-index-end) in
     rw c.trim.ensures
-    (sharing_last s a.shared.source a.shared.from.0 a.shared.object a.shared.to.0 a.shared.n g.result g.ensures P.inside P.room (f + l.r-index) e c.starts_before-stop.ensures b (tidied l.s) h l.invariant)
+    (sharing_last s a.shared.source a.shared.from.0 a.shared.object a.shared.to.0 a.shared.n g.first E.first P.inside P.room (f + l.r-index) e (rw E.end at c.starts_before-stop.ensures) b (tidied l.s) h (rw (E.end, E.target.0, E.target.1) at l.invariant))

@@ -7,7 +7,7 @@ abbrev pub invariant-loop-end : goal.invariant-loop-end
 invariant-loop-end l = record {
   left : length l.rest ≤ length l.chunk;
   fresh : length l.rest ≡ length l.chunk → length l.self.out.items ≡ 0;
-  done : Done l.fn.self.store l.fn.pool l.fn.self.held.items l.chunk l.self.store l.pool l.self.held.items l.rest l.self.out.items;
+  done : Done l.fn.self.store l.fn.self.pool.now l.fn.self.held.items l.chunk l.self.store l.self.pool.now l.self.held.items l.rest l.self.out.items;
 }
 
 abbrev pub decreases-loop-end : goal.decreases-loop-end

@@ -1,14 +1,17 @@
-use Rattle.std.proofs.Common.{◌-◌, sym, arith}
-use Rattle.frames.proofs.Laws.{highest_word, highest_zero, zero_more}
+-- `next_frame` meets its contract: the highest bit of the last word that is not 0 is the highest of all.
+use Rattle.std.proofs.Common.{◌≡◌, ◌<◌, ℕ, get_or, sym, ◌∙◌, rules, tests}
+use Rattle.frames.proofs.Laws.{highest_word, highest_zero}
 use Rattle.page_steps.proofs.settling.next_frame.Goals as goal
 
-pub returns-then-w-gt0 : goal.returns-then-w-gt0
-returns-then-w-gt0 c =
-    let l = c.loop-i in
-    sym (highest_word c.args.s.now.free (l.i - 1) c.top_bit.result (omega arith) c.top_bit.ensures (λ k a b. l.invariant k (omega arith) b))
-
-pub loop-i-preserved : goal.loop-i-preserved
-loop-i-preserved c = let l = c.loop-i in zero_more c.args.s.now.free l.i (omega arith) l.invariant c.if-w-gt0.false
-
 pub returns : goal.returns
-returns c = sym (highest_zero c.args.s.now.free (λ k h. c.loop-i.invariant k (omega arith) h))
+returns c =
+    let ws = c.args.s.now.free in
+    let i = c.in_ok-i.i in
+    let above : (k : ℕ) → i < k → k < 16 → get_or ws k 0 ≡ 0 = search (rules, tests) in
+    sym (highest_word ws i c.top_bit.result (search rules) c.top_bit.ensures above)
+
+pub returns-in_err-i : goal.returns-in_err-i
+returns-in_err-i c =
+    let ws = c.args.s.now.free in
+    let none : (k : ℕ) → k < 16 → get_or ws k 0 ≡ 0 = search (rules, tests) in
+    c.from_residual.ensures ∙ sym (highest_zero ws none)

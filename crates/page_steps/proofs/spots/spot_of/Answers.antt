@@ -1,46 +1,48 @@
 -- `spot_of` meets its contract: by the last range that begins at or before the page.
-use Rattle.std.proofs.Common.{◌≡◌, ℕ, suc, ◌+◌, ap, ◌∙◌, arith}
-use Rattle.ranges.specs.Range.{line}
-use Rattle.ranges.specs.Search.{starts_before}
-use Rattle.table.specs.Searching.{starts_count}
-use Rattle.table.specs.Table.{ranged_of}
-use Rattle.store.specs.Abs.{used}
-use Rattle.pages.specs.Next.{last_range, spot_last, spot_none}
+use Rattle.std.specs.Prelude.{Some, None}
+use Rattle.std.proofs.Common.{◌≡◌, ℕ, zero, suc, ◌-◌, ap, refl, sym, ◌∙◌, arith}
+use Rattle.table.specs.Table.{less_one}
+use Rattle.store.specs.Tabled.{last_at}
+use Rattle.pages.specs.Next.{spot_last, spot_none}
 use Rattle.page_steps.proofs.spots.spot_of.Goals as goal
 
-pub returns-then-n-eq0 : goal.returns-then-n-eq0
-returns-then-n-eq0 c =
-    let a = c.args in
-    let s = a.s.now in
-    let z : c.line_of.result + 1 ≡ suc (line a.object a.page.0) = omega arith in
-    let m = c.starts_before-n.ensures ∙ ap (λ (k : ℕ). starts_before k (ranged_of (used s))) z in
-    c.own_spot.ensures ∙ spot_none s a.object a.page.0 c.starts_before-n.result m c.if-n-eq0.true
+none_before : (n : ℕ) → None ≡ less_one n → n ≡ 0
+none_before zero e = refl
+none_before (suc k) e = absurd (let z : ◌≡◌ {A = ℕ} 0 1 = cc in omega arith)
 
-pub offset_bounds-s-n : goal.offset_bounds-s-n
-offset_bounds-s-n c =
+one_before : (n k : ℕ) → Some k ≡ less_one n → n ≡ suc k
+one_before zero k e = absurd (let z : ◌≡◌ {A = ℕ} 0 1 = cc in omega arith)
+one_before (suc m) k e = let z : k ≡ m = cc in ap suc (sym z)
+
+pub offset_bounds-s-k : goal.offset_bounds-s-k
+offset_bounds-s-k c =
     let s = c.args.s.now in
-    let h = starts_count s.ranges s.count c.requires.0 (c.line_of.result + 1) in
-    record { fits = omega (arith, c.requires.0.few) }
+    let L = last_at s.ranges s.count c.requires c.line.result c.in-Some.k (one_before _ _ c.in-Some.ensures) in
+    record { fits = omega (arith, L.0, c.requires.few) }
 
-pub bounds-s-n : goal.bounds-s-n
-bounds-s-n c =
+pub bounds-s-k : goal.bounds-s-k
+bounds-s-k c =
     let s = c.args.s.now in
-    let h = starts_count s.ranges s.count c.requires.0 (c.line_of.result + 1) in
-    omega (arith, c.requires.0.few)
+    let L = last_at s.ranges s.count c.requires c.line.result c.in-Some.k (one_before _ _ c.in-Some.ensures) in
+    omega (arith, L.0, c.requires.few)
 
-pub spot_in-requires : goal.spot_in-requires
-spot_in-requires c =
-    let a = c.args in
-    let s = a.s.now in
-    let z : c.line_of.result + 1 ≡ suc (line a.object a.page.0) = omega arith in
-    let m = c.starts_before-n.ensures ∙ ap (λ (k : ℕ). starts_before k (ranged_of (used s))) z in
-    let h = last_range s c.requires.0 (line a.object a.page.0) c.starts_before-n.result m (omega arith) in
-    (c.requires.0.few, c.requires.0.small _ h.used, h.low, c.requires.1)
+pub invariant_of-before : goal.invariant_of-before
+invariant_of-before c =
+    let s = c.args.s.now in
+    let L = last_at s.ranges s.count c.requires c.line.result c.in-Some.k (one_before _ _ c.in-Some.ensures) in
+    record { small = c.requires.small c.in-Some.k L.0; begins = omega (arith, L.1, c.line.ensures.line) }
 
-pub returns : goal.returns
-returns c =
-    let a = c.args in
-    let s = a.s.now in
-    let z : c.line_of.result + 1 ≡ suc (line a.object a.page.0) = omega arith in
-    let m = c.starts_before-n.ensures ∙ ap (λ (k : ℕ). starts_before k (ranged_of (used s))) z in
-    c.spot_in.ensures ∙ spot_last s a.object a.page.0 c.starts_before-n.result m (omega arith)
+pub returns-in-None : goal.returns-in-None
+returns-in-None c =
+    let a = c.args.address in
+    let m = rw c.line.ensures.line at (none_before _ c.in-None.ensures) in
+    c.own_spot.ensures ∙ spot_none c.args.s.now a.object a.page.0 0 (sym m) refl
+
+pub returns-in-Some : goal.returns-in-Some
+returns-in-Some c =
+    let a = c.args.address in
+    let s = c.args.s.now in
+    let k = c.in-Some.k in
+    let m = rw c.line.ensures.line at (one_before _ k c.in-Some.ensures) in
+    let z : suc k - 1 ≡ k = omega arith in
+    c.spot.ensures ∙ rw z at (spot_last s a.object a.page.0 (suc k) (sym m) (omega arith))

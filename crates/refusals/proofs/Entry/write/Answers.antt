@@ -1,7 +1,7 @@
--- `refusals::write` meets its contract: the rows of its opening, that of its bytes, then those of what it needs.
-use Rattle.std.proofs.Common.{◌≡◌, false, Err, rules, arith, ltb-false}
+-- `Entry::write` meets its contract: the rows of its opening, that of its bytes, then those of what it needs.
+use Rattle.std.proofs.Common.{◌≡◌, Err, rules, arith}
 use Rattle.book.specs.Book.{past_end}
-use Rattle.refusals.specs.Refuse.{opening, opened, write_number, refused_first, known, row_false, row_passes, row_refuses}
+use Rattle.refusals.specs.Refuse.{opening, opened, write_number, refused_first, known, row_passes, row_refuses}
 use Rattle.refusals.proofs.Entry.write.Goals as goal
 
 pub returns-in_err-opening : goal.returns-in_err-opening
@@ -19,13 +19,7 @@ returns-in_err-in_object c =
     let e = c.in_err-in_object in
     let q : c.from_residual-in_err-in_object.result ≡ Err e.field-0.0 = search rules in
     rw q (write_number a.self.now.sound.store.now _ a.pool b.object b.offset b.n
-    (λ x. opened a.self.now.sound.store.now a.pool b.object c.in_ok-opening.ensures.number (row_refuses (past_end b.offset b.n) 6 e.field-0.0 e.ensures)))
-
-pub lacking_bytes-requires : goal.lacking_bytes-requires
-lacking_bytes-requires c =
-    let b = c.args.extent in
-    let f : past_end b.offset b.n ≡ false = row_false (past_end b.offset b.n) 6 (omega arith) c.in_ok-in_object.ensures in
-    ltb-false _ _ f
+    (λ x. opened a.self.now.sound.store.now a.pool b.object c.in_ok-opening.ensures.number (row_refuses (past_end b.offset b.n) 6 e.field-0.0 e.ensures.number)))
 
 pub returns : goal.returns
 returns c =
@@ -33,4 +27,4 @@ returns c =
     let b = a.extent in
     write_number a.self.now.sound.store.now _ a.pool b.object b.offset b.n
     (λ x. opened a.self.now.sound.store.now a.pool b.object c.in_ok-opening.ensures.number
-    (row_passes (past_end b.offset b.n) 6 (omega arith) c.in_ok-in_object.ensures (known (c.lacking_bytes.ensures x))))
+    (row_passes (past_end b.offset b.n) 6 (omega arith) c.in_ok-in_object.ensures.number (known (rw c.in_ok-in_object.ensures.same at (c.lacking_bytes.ensures x)))))

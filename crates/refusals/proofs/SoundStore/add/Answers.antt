@@ -1,4 +1,4 @@
--- `refusals::add` meets its contract: the rows of its opening, that of its page, then those of what it needs.
+-- `SoundStore::add` meets its contract: the rows of its opening, that of its page, then those of what it needs.
 use Rattle.std.proofs.Common.{◌≡◌, Err, leb, rules, arith}
 use Rattle.refusals.specs.Refuse.{opening, opened, add_number, refused_first, known, row_passes, row_refuses}
 use Rattle.refusals.proofs.SoundStore.add.Goals as goal

@@ -1,4 +1,4 @@
--- `refusals::drop_object` meets its contract: row 3 alone may apply.
+-- `SoundStore::drop_object` meets its contract: row 3 alone may apply.
 use Rattle.store.specs.Iff.{sound_says}
 use Rattle.refusals.specs.Refuse.{drop_number, known, passes, row_one}
 use Rattle.refusals.proofs.SoundStore.drop_object.Goals as goal

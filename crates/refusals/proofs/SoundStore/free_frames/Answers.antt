@@ -1,4 +1,4 @@
--- `refusals::needs::free_frames` meets its contract: the map's bits are the book's free frames.
+-- `SoundStore::free_frames` meets its contract: the map's bits are the book's free frames.
 use Rattle.store.specs.Iff.{sound_says}
 use Rattle.refusals.specs.Needs.{spare_count, spare_few}
 use Rattle.refusals.proofs.SoundStore.free_frames.Goals as goal

@@ -1,4 +1,4 @@
--- `refusals::needs::lacking` meets its contract: rows 8 and 9, by the free frames and the free slots.
+-- `SoundStore::lacking` meets its contract: rows 8 and 9, by the free frames and the free slots.
 use Rattle.std.proofs.Common.{arith, le-ltb, lt-ltb, ◌+◌, ◌*◌}
 use Rattle.store.specs.Iff.{sound_says}
 use Rattle.refusals.specs.Refuse.{applies, passes, none_left}

@@ -1,4 +1,4 @@
--- `refusals::look_up` meets its contract: the rows that apply, in their order; row 1 does not.
+-- `SoundStore::look_up` meets its contract: the rows that apply, in their order; row 1 does not.
 use Rattle.std.proofs.Common.{◌≡◌, Err, rules, arith}
 use Rattle.store.specs.Iff.{sound_says}
 use Rattle.refusals.specs.Refuse.{no_name, look_number, known, passes, row_one, row_passes, row_refuses}

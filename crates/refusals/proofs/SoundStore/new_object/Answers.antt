@@ -1,4 +1,4 @@
--- `refusals::new_object` meets its contract: the rows that apply, in their order; row 1 does not.
+-- `SoundStore::new_object` meets its contract: the rows that apply, in their order; row 1 does not.
 use Rattle.std.proofs.Common.{rules, sym, ◌∙◌, le-ltb, lt-ltb}
 use Rattle.store.specs.Live.{live_at}
 use Rattle.store.specs.Iff.{sound_says}

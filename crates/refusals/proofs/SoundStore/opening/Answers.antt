@@ -1,4 +1,4 @@
--- `refusals::opening` meets its contract: the rows that apply, in their order; row 1 does not.
+-- `SoundStore::opening` meets its contract: the rows that apply, in their order; row 1 does not.
 use Rattle.std.proofs.Common.{ap, not, ◌*◌, arith, eq-eqb, ne_eqb}
 use Rattle.store.specs.Iff.{sound_says}
 use Rattle.refusals.specs.Refuse.{decides, applies, passes, known, row_one}

@@ -1,4 +1,4 @@
--- `refusals::show` meets its contract: the rows of its opening, then that of its page.
+-- `SoundStore::show` meets its contract: the rows of its opening, then that of its page.
 use Rattle.std.proofs.Common.{◌≡◌, Err, rules}
 use Rattle.refusals.specs.Refuse.{opening, opened, show_number, refused_first, known}
 use Rattle.refusals.proofs.SoundStore.show.Goals as goal

@@ -10,7 +10,7 @@ use Rattle.refusals.proofs.needs.met_whole.Goals as goal
 pub returns : goal.returns
 returns c =
     let s = c.args.s.now in
-    let e = c.args.extent in
+    let e = c.args.within.extent in
     let p = c.span_of-span in
     let h = p.ensures in
     let g = c.line_of-a.ensures ∙ ap (line e.object) c.from_offset.ensures in

@@ -2,20 +2,14 @@ use Rattle.std.proofs.Common.{arith}
 use Rattle.window_cover.specs.Intervals.{entered_one, entered_two, filed_marked}
 use Rattle.window_cover.proofs.Cover.enter.Goals as goal
 
-pub put-requires-then-low-high : goal.put-requires-then-low-high
-put-requires-then-low-high c =
-    let F = c.requires.3 in
-    let P = c.put.ensures F.0 (filed_marked F.0 c.args.self.now c.size-size.result F.1) in
-    (omega (arith, c.chain_of-then-low-high.ensures), omega (arith, P.few), (P.chains, P.filed))
-
 pub returns-then-low-high : goal.returns-then-low-high
 returns-then-low-high c = λ chain F.
-    let P = c.put.ensures chain (filed_marked chain c.args.self.now c.size-size.result F) in
+    let P = c.put.ensures.put chain (filed_marked chain c.args.self.now c.size-size.result F) in
     entered_two chain c.args.self.now c.size-size.result F (omega (arith, c.size-size.ensures)) c.put.new.self c.args.interval c.chain_of.result c.chain_of.ensures P
-    c.size-size.ensures.1 c.put-then-low-high.new.self c.chain_of-then-low-high.result c.chain_of-then-low-high.ensures (c.put-then-low-high.ensures P.chains P.filed)
+    c.size-size.ensures.1 c.put-then-low-high.new.self c.chain_of-then-low-high.result c.chain_of-then-low-high.ensures (c.put-then-low-high.ensures.put P.chains P.filed)
 
 pub returns-else-low-high : goal.returns-else-low-high
 returns-else-low-high c = λ chain F.
-    let P = c.put.ensures chain (filed_marked chain c.args.self.now c.size-size.result F) in
+    let P = c.put.ensures.put chain (filed_marked chain c.args.self.now c.size-size.result F) in
     entered_one chain c.args.self.now c.size-size.result F (omega (arith, c.size-size.ensures)) c.put.new.self c.args.interval c.chain_of.result c.chain_of.ensures P
     c.if-low-high.false

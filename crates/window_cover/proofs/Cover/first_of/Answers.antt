@@ -1,26 +1,38 @@
-use Rattle.std.proofs.Common.{arith}
-use Rattle.window_cover.specs.Intervals.{sought_start, sought_less, sought_next, sought_hit, sought_end}
+use Rattle.std.proofs.Common.{◌≡◌, List, [], length, ap, arith, rules}
+use Rattle.window_cover.specs.declared.Interval.{Interval}
+use Rattle.window_cover.specs.Intervals.{ahead_start, ahead_next, ahead_hit, ahead_low, ahead_end}
 use Rattle.window_cover.proofs.Cover.first_of.Goals as goal
 
-pub loop-at-init : goal.loop-at-init
-loop-at-init g c =
-    let p = c.requires.filed in
-    rw c.slot-at.ensures (sought_start _ c.args.self.now c.args.h p.0 p.1.0 p.1.1)
+pub loop-i-init : goal.loop-i-init
+loop-i-init g c =
+    record {
+      can_next = tt;
+      is_finite = tt;
+      ahead = rw c.into_iter-i-iterator.ensures.into_iter_gives (ahead_start _ c.args.self.now c.args.h c.chain-i-items.result c.requires.in_heads c.chain-i-items.ensures);
+    }
 
-pub returns-then-test-clause-first : goal.returns-then-test-clause-first
-returns-then-test-clause-first g c = λ chain F. sought_hit _ c.args.self.now c.args.h c.in-Some.i (rw c.in-Some.is at c.loop-at.invariant) chain F c.if-test.ensures
+pub returns-in_err-get-clause-first : goal.returns-in_err-get-clause-first
+returns-in_err-get-clause-first g c = λ chain F.
+    let l = ahead_low _ c.args.self.now c.args.h c.in-Some.i _ (rw c.in-Some.ensures.steps at c.loop-i.invariant.ahead) chain F in
+    let n = ap (λ (s : List Interval). length s) c.as_slice-intervals.ensures.value in
+    absurd (omega (arith, l, n, c.in_err-get.ensures.lookup.3))
 
-pub loop-at-smaller : goal.loop-at-smaller
-loop-at-smaller g c =
-    let p = c.requires.filed in
-    rw c.in-Some.is
-    (omega (arith, c.slot-at-in-Some.ensures, sought_less _ c.args.self.now c.args.h c.in-Some.i (rw c.in-Some.is at c.loop-at.invariant) p.1.0 p.1.1))
+pub returns-then-call-clause-first : goal.returns-then-call-clause-first
+returns-then-call-clause-first g c =
+    let e = (c.in_ok-get.ensures.lookup.3).1 (record { backing = 0; first = 0; end = 0 }) in
+    ahead_hit _ c.args.self.now c.args.h c.in-Some.i _ (rw c.in-Some.ensures.steps at c.loop-i.invariant.ahead) (rw (e, c.as_slice-intervals.ensures.value) at c.if-call.ensures)
 
-pub loop-at-preserved : goal.loop-at-preserved
-loop-at-preserved g c =
-    let p = c.requires.filed in
-    rw c.slot-at-in-Some.ensures
-    (sought_next _ c.args.self.now c.args.h c.in-Some.i (rw c.in-Some.is at c.loop-at.invariant) p.1.0 p.1.1 c.if-test.ensures)
+pub loop-i-preserved : goal.loop-i-preserved
+loop-i-preserved g c =
+    let e = (c.in_ok-get.ensures.lookup.3).1 (record { backing = 0; first = 0; end = 0 }) in
+    record {
+      can_next = tt;
+      is_finite = tt;
+      ahead = ahead_next _ c.args.self.now c.args.h c.in-Some.i _ (rw c.in-Some.ensures.steps at c.loop-i.invariant.ahead)
+          (λ l. rw (e, c.as_slice-intervals.ensures.value) at c.if-call.ensures);
+    }
 
 pub returns-clause-first : goal.returns-clause-first
-returns-clause-first g c = λ chain F. sought_end _ c.args.self.now c.args.h (rw c.in_default.is at c.loop-at.invariant) chain F
+returns-clause-first g c =
+    let e : c.loop-i.i-iterator ≡ [] = search rules in
+    ahead_end _ c.args.self.now c.args.h (rw e at c.loop-i.invariant.ahead)

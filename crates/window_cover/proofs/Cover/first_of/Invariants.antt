@@ -1,10 +1,10 @@
--- The loop's invariant: no interval of the chain behind slot `at` passes the test. The measure is the link to that.
-use Rattle.window_search.specs.Windows.{link_of}
-use Rattle.window_cover.specs.Intervals.{Sought}
+-- The loop's invariant: no interval of the chain before the entries that are left passes the test.
+use Rattle.window_cover.specs.Intervals.{Ahead}
 use Rattle.window_cover.proofs.Cover.first_of.Given as goal
 
-abbrev pub invariant-loop-at : goal.invariant-loop-at
-invariant-loop-at g l = Sought (λ a t. g.F.Fn.post l.test (a, tt) t) l.self l.h (link_of l.at)
-
-abbrev pub decreases-loop-at : goal.decreases-loop-at
-decreases-loop-at g l = link_of l.at
+abbrev pub invariant-loop-i : goal.invariant-loop-i
+invariant-loop-i g l = record {
+  can_next : (goal.iterator-loop-i g).can_next l.i-iterator;
+  is_finite : (goal.iterator-loop-i g).is_finite l.i-iterator;
+  ahead : Ahead (λ a t. g.F.Fn.post l.test (a, tt) t) l.self l.h l.i-iterator;
+}

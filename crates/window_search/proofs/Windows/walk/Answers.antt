@@ -1,33 +1,38 @@
-use Rattle.std.proofs.Common.{sym, ◌∙◌, arith}
-use Rattle.window_search.specs.Windows.{going_start, going_less, going_next, going_hit, going_end, link_of}
+use Rattle.std.proofs.Common.{ap, sym, ◌∙◌, [], not, arith, rules, length, ◌≡◌}
+use Rattle.chains.specs.Entries.{left_all, left_end, left_next}
+use Rattle.window_search.specs.Windows.{in_table, met_none, outside, walk_windows}
 use Rattle.window_search.proofs.Windows.walk.Goals as goal
 
-pub loop-at-init : goal.loop-at-init
-loop-at-init c = let s = c.args.self.now in going_start s.ranges.now s.chains.now.next c.args.place (link_of c.args.from)
-
-pub has-requires : goal.has-requires
-has-requires c = let G = rw c.in-Some.is at c.loop-at.invariant in omega (arith, G.low, c.requires.0)
+pub loop-i-init : goal.loop-i-init
+loop-i-init c =
+    let s = c.args.self.now in
+    let p = c.args.place in
+    record {
+      can_next = tt;
+      is_finite = tt;
+      left = rw c.into_iter-i-iterator.ensures.into_iter_gives
+          (left_all s.chains.now.next (outside s.ranges.now p) (length s.ranges.now) _ c.chain-i-items.result (omega (arith, s.few))
+          (rw c.chain_by.ensures (walk_windows s.ranges.now (length s.ranges.now) s.chains.now s.chained p)) c.chain-i-items.ensures);
+    }
 
 pub returns-then-has : goal.returns-then-has
 returns-then-has c =
     let s = c.args.self.now in
-    let G = rw c.in-Some.is at c.loop-at.invariant in
-    going_hit s.ranges.now s.chains.now.next c.args.place (link_of c.args.from) c.in-Some.i G (sym c.has.ensures ∙ c.if-has.true)
+    let e = sym c.has.ensures ∙ c.if-has.true in
+    (in_table s.ranges.now c.args.place c.in-Some.i e, e)
 
-pub loop-at-smaller : goal.loop-at-smaller
-loop-at-smaller c =
+pub loop-i-preserved : goal.loop-i-preserved
+loop-i-preserved c =
     let s = c.args.self.now in
-    let G = rw c.in-Some.is at c.loop-at.invariant in
-    rw c.in-Some.is (omega (arith, c.slot-at.ensures, going_less s.ranges.now s.chains.now.next c.args.place (link_of c.args.from) c.in-Some.i G c.requires.1))
-
-pub loop-at-preserved : goal.loop-at-preserved
-loop-at-preserved c =
-    let s = c.args.self.now in
-    let G = rw c.in-Some.is at c.loop-at.invariant in
-    rw c.slot-at.ensures
-    (going_next s.ranges.now s.chains.now.next c.args.place (link_of c.args.from) c.in-Some.i G c.requires.1 (sym c.has.ensures ∙ c.if-has.false))
+    record {
+      can_next = tt;
+      is_finite = tt;
+      left = left_next s.chains.now.next (outside s.ranges.now c.args.place) (length s.ranges.now) c.in-Some.i _
+          (rw c.in-Some.ensures.steps at c.loop-i.invariant.left) (ap not (sym c.has.ensures ∙ c.if-has.false));
+    }
 
 pub returns : goal.returns
 returns c =
     let s = c.args.self.now in
-    going_end s.ranges.now s.chains.now.next c.args.place (link_of c.args.from) (rw c.in_default.is at c.loop-at.invariant)
+    let e : c.loop-i.i-iterator ≡ [] = search rules in
+    met_none s.ranges.now c.args.place (sym (left_end s.chains.now.next (outside s.ranges.now c.args.place) (length s.ranges.now) (rw e at c.loop-i.invariant.left)))

@@ -1,9 +1,12 @@
--- The loop's invariant: the walk that began at `from` is at slot `at`. The measure is the link to that.
-use Rattle.window_search.specs.Windows.{link_of, Going}
+-- The walk has the rest of the chain of the place's backing before it.
+use Rattle.std.proofs.Common.{length}
+use Rattle.chains.specs.Entries.{Left}
+use Rattle.window_search.specs.Windows.{outside}
 use Rattle.window_search.proofs.Windows.walk.Given as goal
 
-abbrev pub invariant-loop-at : goal.invariant-loop-at
-invariant-loop-at l = Going l.self.ranges.now l.self.chains.now.next l.place (link_of l.fn.from) (link_of l.at)
-
-abbrev pub decreases-loop-at : goal.decreases-loop-at
-decreases-loop-at l = link_of l.at
+abbrev pub invariant-loop-i : goal.invariant-loop-i
+invariant-loop-i l = record {
+  can_next : (goal.iterator-loop-i).can_next l.i-iterator;
+  is_finite : (goal.iterator-loop-i).is_finite l.i-iterator;
+  left : Left l.self.chains.now.next (outside l.self.ranges.now l.place) (length l.self.ranges.now) l.i-iterator;
+}
