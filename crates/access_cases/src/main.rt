@@ -113,7 +113,7 @@ fn edges() {
 fn over_pages() {
     let s = paged();
     let src = span();
-    let mut want = frames(&[1, 2, 3, 12, 5]);
+    let mut want: [u8; 20480] = frames(&[1, 2, 3, 12, 5]);
     want[20479] = 11;
     want[8192] = 13;
     puts("three pages written", s, 0, 4095, &src, s, &want);
@@ -124,7 +124,7 @@ fn over_pages() {
 fn all_pages() {
     let s = paged();
     let src = five();
-    let want = frames(&[5, 4, 3, 2, 1]);
+    let want: [u8; 20480] = frames(&[5, 4, 3, 2, 1]);
     puts("five pages written", s, 0, 0, &src, s, &want);
     report("five pages read", read_is(s, &src, 0, 0, &want));
 }

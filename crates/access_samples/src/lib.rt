@@ -1,6 +1,6 @@
 // What the programs that run calls on bytes share: small stores and pools, and the comparing of answers. Backings are compared as document 01 has them: their numbers and kinds are free.
 // By hand: a case is told in one call, so that it stands in one line: `s`, the store, with `object` and `offset`, which document 01 gives the calls; or, of a
-// refusal, `n`, the bytes of the pool that are lent, and `why`.
+// refusal, `n`, the bytes of the pool that are lent, and `why`, the refusal or its number of the table.
 #![tactic(auto)]
 
 ghost use Rattle.std.specs.Prelude.{◌≡◌};
@@ -10,6 +10,7 @@ use page::PageNumber;
 use places::Place;
 use refusals::{Extent, Refusal};
 use samples::{FREE, many, place, report, seated, single, store};
+use std::convert::AsSlice;
 use store::Store;
 use table::{BackingPages, PageRange};
 
@@ -244,17 +245,17 @@ pub fn read_is(s: Store, pool: &[u8], object: u32, offset: usize, want: &[u8]) -
 }
 
 // On the pool of five frames the call is done, and leaves this store and this pool.
-pub fn done<F>(call: F, t: Store, want: &[u8; 20480]) -> bool
+pub fn done<F>(call: F, t: Store, want: &[u8]) -> bool
 where
     F: FnOnce(&mut [u8]) -> Result<Store, Refusal>,
     requires { F.IsAlwaysCallable call }
 {
     let mut pool = five();
-    leaves(call(&mut pool), t) && pool == *want
+    leaves(call(&mut pool), t) && pool.as_slice() == want
 }
 
 // ---- refusals, where the first n bytes of a pool of sevens are lent: pool and buffer stay. A case that asks for more bytes than there are goes wrong.
-pub fn refused<T: Drop, F>(call: F, n: usize, why: Refusal) -> bool
+pub fn refused<T: Drop, W: Into<u8> + Drop, F>(call: F, n: usize, why: W) -> bool
 where
     F: FnOnce(&mut [u8]) -> Result<T, Refusal>,
     requires { F.IsAlwaysCallable call }
@@ -263,7 +264,7 @@ where
     let Some(lent) = pool.get_mut(..n) else {
         return false;
     };
-    call(lent).err() == Some(why) && pool == [7; 24576]
+    call(lent).err().map(u8::from) == Some(why.into()) && pool == [7; 24576]
 }
 
 // n bytes of an object, from an offset on. By hand: the parameters are the fields of what it makes.
@@ -273,12 +274,18 @@ pub fn extent(object: u32, offset: usize, n: usize) -> Extent
     Extent { object, offset, n }
 }
 
-pub fn add_refused(s: Store, n: usize, object: u32, page: usize, why: Refusal) -> bool {
+pub fn add_refused<W: Into<u8> + Drop>(
+    s: Store,
+    n: usize,
+    object: u32,
+    page: usize,
+    why: W,
+) -> bool {
     let page = PageNumber(page);
     refused(|pool| access::add(s, pool, object, page), n, why)
 }
 
-pub fn read_refused(s: Store, n: usize, extent: Extent, why: Refusal) -> bool {
+pub fn read_refused<W: Into<u8> + Drop>(s: Store, n: usize, extent: Extent, why: W) -> bool {
     let mut buf = five();
     let Some(there) = buf.get_mut(..extent.n) else {
         return false;
@@ -291,7 +298,7 @@ pub fn read_refused(s: Store, n: usize, extent: Extent, why: Refusal) -> bool {
     right && buf == five()
 }
 
-pub fn write_refused(s: Store, n: usize, extent: Extent, why: Refusal) -> bool {
+pub fn write_refused<W: Into<u8> + Drop>(s: Store, n: usize, extent: Extent, why: W) -> bool {
     let src = five();
     let Some(src) = src.get(..extent.n) else {
         return false;
@@ -305,38 +312,52 @@ pub fn write_refused(s: Store, n: usize, extent: Extent, why: Refusal) -> bool {
 
 // ---- one case a line, on the pool of five frames
 // The page added has this frame, which is zeroed; all other bytes stay.
-pub fn adds(name: &str, s: Store, object: u32, page: usize, frame: usize, t: Store) {
+pub fn adds<N: AsSlice<u8> + Drop>(
+    name: N,
+    s: Store,
+    object: u32,
+    page: usize,
+    frame: usize,
+    t: Store,
+) {
     let mut pool = five();
     let r = access::add(s, &mut pool, object, PageNumber(page));
     report(name, hands(r, frame, t) && pool == zeroed(frame));
 }
 
 // The write is done and leaves this store and this pool. By hand: `object`, `offset` and the bytes are those of the call.
-pub fn puts(
-    name: &str,
+pub fn puts<N: AsSlice<u8> + Drop>(
+    name: N,
     s: Store,
     object: u32,
     offset: usize,
     src: &[u8],
     t: Store,
-    want: &[u8; 20480],
+    want: &[u8],
 ) {
     let right = done(|pool| access::write(s, pool, object, offset, src), t, want);
     report(name, right);
 }
 
 // A write of no bytes is done and changes nothing.
-pub fn puts_nothing(name: &str, s: Store, object: u32, offset: usize) {
+pub fn puts_nothing<N: AsSlice<u8> + Drop>(name: N, s: Store, object: u32, offset: usize) {
     puts(name, s, object, offset, &[], s, &five());
 }
 
 // The read is done and gives these bytes.
-pub fn gets(name: &str, s: Store, object: u32, offset: usize, want: &[u8]) {
+pub fn gets<N: AsSlice<u8> + Drop>(name: N, s: Store, object: u32, offset: usize, want: &[u8]) {
     report(name, read_is(s, &five(), object, offset, want));
 }
 
 // An add, and a write of one byte, that are refused.
-pub fn turned(name: &str, s: Store, page: usize, offset: usize, why: Refusal) {
+pub fn turned<N: AsSlice<u8> + Drop, W: Into<u8> + Drop>(
+    name: N,
+    s: Store,
+    page: usize,
+    offset: usize,
+    why: W,
+) {
+    let why: u8 = why.into();
     let added = add_refused(s, 20480, 0, page, why);
     let written = write_refused(s, 20480, extent(0, offset, 1), why);
     report(name, added && written);

@@ -1,6 +1,7 @@
 // WHAT THE CALLS COST. Each line has a work, the frames and the ranges in use, and a number. With no input that is how many of three turns went as they
-// should, and `rt ci` compares; with a digit as input, of so many turns. With a letter it is the nanoseconds of one turn: the turns are doubled until they
-// take 0.02 seconds of processor time. `g`: how cost grows. Any other: the table. bench/run has what each work is.
+// should, and `rt ci` compares; with a digit as input, of so many turns (with another byte below them, of as many as its lower half says). With a letter it is
+// the nanoseconds of one turn: the turns are doubled until they take 0.02 seconds of processor time. `g`: how cost grows. Any other: the table. bench/run has
+// what each work is.
 #![tactic(auto)]
 
 ghost use Rattle.std.specs.Prelude.{◌*◌, ◌≤◌, ◌<◌};
@@ -344,6 +345,15 @@ fn looked_at(pool: &mut [u8]) -> Result<()> {
     Ok(())
 }
 
+// How it is measured, for the first byte of the input.
+fn mode_of(input: Option<u8>) -> Mode {
+    match input {
+        None | Some(0) => Mode::Turns(3),
+        Some(byte) if byte <= b'9' => Mode::Turns(usize::from(byte % 16)),
+        Some(_) => Mode::Time,
+    }
+}
+
 // A function of its own: what is lent here is any array, and a proof in `main` would write out the zeros.
 fn lent<R: Copy + CpuClock + Print>(
     pool: &mut [u8; 4194304],
@@ -351,11 +361,7 @@ fn lent<R: Copy + CpuClock + Print>(
     rt: R,
 ) -> Result<()> {
     looked_at(pool)?;
-    let mode = match input {
-        None => Mode::Turns(3),
-        Some(digit) if digit.is_ascii_digit() => Mode::Turns(usize::from(digit % 16)),
-        Some(_) => Mode::Time,
-    };
+    let mode = mode_of(input);
     let meter = Meter { mode, rt };
     let mut bench = Bench { pool, meter };
     match (mode, input) {
@@ -365,8 +371,9 @@ fn lent<R: Copy + CpuClock + Print>(
     }
 }
 
-fn main(rt: HostRuntime) -> Result<()> {
-    let input = rt.stdin().bytes().next().transpose()?;
+// Input that can't be read counts as none. Output that can't be written ends the work, and there is nobody to tell.
+fn main(rt: HostRuntime) {
+    let input = rt.stdin().bytes().next().and_then(|byte| byte.ok());
     let mut pool = [0; 4194304];
-    lent(&mut pool, input, rt)
+    let _ = lent(&mut pool, input, rt);
 }

@@ -184,14 +184,15 @@ fn lent<R: Copy + CpuClock + Print>(
     input: Option<u8>,
     rt: R,
 ) -> Result<()> {
-    match input {
-        None => small(pool, rt),
-        Some(digit) => large(pool, digit % 16, rt),
+    match input.map_or(0, |byte| byte % 16) {
+        0 => small(pool, rt),
+        rounds => large(pool, rounds, rt),
     }
 }
 
-fn main(rt: HostRuntime) -> Result<()> {
-    let input = rt.stdin().bytes().next().transpose()?;
+// Input that can't be read counts as none. Output that can't be written ends the work, and there is nobody to tell.
+fn main(rt: HostRuntime) {
+    let input = rt.stdin().bytes().next().and_then(|byte| byte.ok());
     let mut pool = [0; 4194304];
-    lent(&mut pool, input, rt)
+    let _ = lent(&mut pool, input, rt);
 }

@@ -5,7 +5,7 @@
 
 ghost use Rattle.std.specs.Prelude.{◌≡◌, List, ℕ, ◌+◌, ◌≤◌, ◌<◌, get_or, replicate, set};
 ghost use Rattle.std.specs.Iterator.{YieldsFirst, item_count};
-ghost use Rattle.chains.specs.Entries.{entries, left, link_of};
+ghost use Rattle.chains.specs.Entries.{entries, link_of};
 
 use std::marker::Model;
 
@@ -45,7 +45,6 @@ impl Chains {
         Chain {
             next: &self.next,
             link: self.heads[h],
-            passed: false,
         }
     }
 
@@ -57,7 +56,6 @@ impl Chains {
         Chain {
             next: &self.next,
             link: self.next[i],
-            passed: false,
         }
     }
 }
@@ -69,19 +67,26 @@ pub fn entry(link: u16) -> Option<usize>
     usize::from(link).checked_sub(1)
 }
 
+// The link to the next lower entry than i. Not compiled into the walk, so that a chain that falls, as all that are made do, waits for no comparison.
+#[inline(never)]
+fn lower(i: usize) -> u16
+    requires { i < 1024 }
+    ensures { result ≡ i }
+{
+    i as u16
+}
+
 // What is left of a chain: seen as the list of its entries.
 #[derive(Drop)]
 pub struct Chain<'a> {
     next: &'a [u16; 1024],
     link: u16,
-    // whether the entry that the link leads to is passed: its own link is looked at only when the entry behind it is asked for
-    passed: bool,
 }
 
 impl<'a> Model for Chain<'a> {
     ghost Value = { List ℕ };
 
-    ghost view = { λ s. left s.next.now s.link s.passed };
+    ghost view = { λ s. entries s.next.now s.link };
 }
 
 // A link that leads no lower than its own entry counts as one to the next lower entry, so that every chain ends.
@@ -94,12 +99,14 @@ impl Iterator for Chain<'_> {
 
     fn next(&mut self) -> Option<usize> {
         let next = self.next;
-        if self.passed {
-            let link = *next.get(entry(self.link)?)?;
-            self.link = link.min(self.link - 1);
-        }
-        self.passed = true;
-        let i = entry(self.link)?;
-        next.get(i).and(Some(i))
+        // link 0 wraps, to an entry that there is not: the test that ends a chain is one, and a step waits for its link alone
+        let i = usize::from(self.link).wrapping_sub(1);
+        let link = *next.get(i)?;
+        self.link = if usize::from(link) <= i {
+            link
+        } else {
+            lower(i)
+        };
+        Some(i)
     }
 }

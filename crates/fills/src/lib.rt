@@ -19,6 +19,7 @@ pub struct Pages {
 impl Pages {
     fn new(object: u32, first: usize, count: usize) -> Pages
         requires { first + count ≤ 262144 }
+        ensures { (result.object ≡ object) × (result.first ≡ first) }
     {
         Pages {
             object,
@@ -72,13 +73,16 @@ impl Parts {
     }
 
     // Range i is in one of eight records, too far from the next to join it: 8 ranges have at most 128 pages each.
-    pub fn apart(self, i: usize) -> Pages {
+    pub fn apart(self, i: usize) -> Pages
+        ensures { (result.object < 8) × (result.first ≤ 12096) }
+    {
         Pages::new(object_of(i), page_of(i), self.size(i))
     }
 
     // Range j of record 0 alone: where there are two or more, they have at most 47 pages each, and none joins the next.
     pub fn in_record(self, j: usize) -> Pages
         requires { j ≤ 512 }
+        ensures { result.first ≤ 32768 }
     {
         Pages::new(0, j * 64, self.size(j))
     }

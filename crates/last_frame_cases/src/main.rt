@@ -116,7 +116,7 @@ fn three_frames() {
         place(2, 0),
         place(1, 0),
     ];
-    let mut want = frames(&[0, 13, 12, 4, 5]);
+    let mut want: [u8; 20480] = frames(&[0, 13, 12, 4, 5]);
     want[0] = 14;
     want[20479] = 11;
     puts(

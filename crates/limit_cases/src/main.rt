@@ -204,7 +204,7 @@ fn full_nothing() {
 fn four_slots() {
     let p = [FREE, FREE, place(600, 1), place(600, 0), place(1, 0)];
     let t = ranged(far(508, &p, 3), 508, many(0, 262000, 2, 0, 600));
-    let mut want = frames(&[1, 2, 0, 0, 5]);
+    let mut want: [u8; 20480] = frames(&[1, 2, 0, 0, 5]);
     want[8192] = b'y';
     want[16383] = b'x';
     puts(

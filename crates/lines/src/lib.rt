@@ -4,7 +4,7 @@
 ghost use Rattle.std.specs.Prelude.{◌≡◌, ◌++◌, ◌≤◌, take};
 ghost use Rattle.arrayvec.specs.ArrayVec.{array_vec_len};
 ghost use Rattle.replies.specs.Line.{parse};
-ghost use Rattle.replies.specs.Replies.{Replied};
+ghost use Rattle.replies.specs.Replies.{Replied, bytes_of};
 ghost use Rattle.lines.specs.Did.{LineDid};
 
 use arrayvec::ArrayVec;
@@ -13,7 +13,7 @@ use store::Store;
 
 // The bytes of a line's answer.
 fn replied(s: &mut Store, pool: &mut [u8], line: &[u8]) -> Spoken
-    ensures { Replied (parse line.now) s.old pool.old result.items s.new pool.new }
+    ensures { Replied (parse line.now) s.old pool.old (bytes_of result) s.new pool.new }
 {
     if 512 < line.len() {
         return replies::malformed();
@@ -32,7 +32,7 @@ pub fn answer(s: &mut Store, pool: &mut [u8], line: &[u8]) -> ArrayVec<u8, 512>
     ensures bound { array_vec_len result ≤ 512 }
     ensures did { LineDid line.now s.old pool.old result.items s.new pool.new }
 {
-    hexadecimal::encode(&replied(s, pool, line))
+    hexadecimal::encode(replied(s, pool, line).as_slice())
 }
 
 // The bytes of `part` behind those that are held of a line, as many as there is room for.

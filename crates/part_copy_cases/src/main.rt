@@ -81,7 +81,7 @@ fn parts_cut() {
     ];
     let p = [FREE, place(3, 0), FREE, FREE, place(1, 0)];
     let t = small(3, &b, &p, 13);
-    let want = filled(frames(&[1, 3, 3, 4, 5]), 20384, 96, 0);
+    let want: [u8; 20480] = filled(frames(&[1, 3, 3, 4, 5]), 20384, 96, 0);
     let want = filled(want, 4096, 10, 0);
     copied(
         "a last page that is shared when it is reached",
@@ -118,7 +118,7 @@ fn trailing_part() {
     let r = [a, b, single(1, 0, 1, 0, 1), many(1, 1, 2, 0, 2)];
     let p = [FREE, place(2, 1), place(3, 0), place(2, 0), place(1, 0)];
     let t = small(3, &r, &p, 1);
-    let want = filled(frames(&[1, 0, 3, 4, 5]), 4096, 10, 3);
+    let want: [u8; 20480] = filled(frames(&[1, 0, 3, 4, 5]), 4096, 10, 3);
     copied(
         "part of a page behind a skipped one",
         s,
@@ -137,7 +137,7 @@ fn gone_at_once() {
     let r = [a, single(1, 4, 1, 0, 3), many(1, 5, 3, 0, 1)];
     let p = [place(1, 2), place(3, 0), place(2, 0), place(1, 0), FREE];
     let t = small(3, &r, &p, 16);
-    let want = filled(frames(&[0, 5, 3, 4, 5]), 8096, 96, 3);
+    let want: [u8; 20480] = filled(frames(&[0, 5, 3, 4, 5]), 8096, 96, 3);
     copied(
         "a range extended over what was cut out",
         s,

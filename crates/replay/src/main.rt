@@ -6,7 +6,7 @@
 // Numbers are hexadecimal. rust/harness prints the same of the original, and compares.
 #![tactic(auto)]
 
-ghost use Rattle.std.specs.Prelude.{◌≤◌, ◌<◌, length};
+ghost use Rattle.std.specs.Prelude.{◌≤◌, ◌<◌, length, IfSome};
 
 mod output;
 
@@ -14,7 +14,6 @@ use arrayvec::ArrayVec;
 use output::{Holdings, Output};
 use page::PageNumber;
 use std::fmt::{self, Write};
-use std::io::{Read, Stdin};
 use store::Store;
 
 // The bytes of 1,024 frames.
@@ -37,9 +36,11 @@ fn digit(b: u8) -> usize
 }
 
 // The number of frames in a line that starts a list, of its last four digits; none for another line.
-fn asked(line: &[u8]) -> Option<usize> {
+fn asked(line: &[u8]) -> Option<usize>
+    ensures { IfSome result (λ n. n < 65536) }
+{
     let digits = line.strip_prefix(b"=")?;
-    Some(digits.iter().fold(0, |n, b| n % 4096 * 16 + digit(*b)))
+    Some(digits.iter().fold(0, |n, b| n % 4096 * 16 + digit(*b)) % 65536)
 }
 
 // The lists under way: the store and the pool, the bytes held of the line under way, as many as there is room for, and the output.
@@ -87,7 +88,9 @@ impl Replay<'_> {
         self.line.clear();
         self.out.write_str("\n")?;
         let n = self.pool_length();
-        tell(&mut self.out, &self.store, &mut self.pool[..n])
+        tell(&mut self.out, &self.store, &mut self.pool[..n])?;
+        self.out.flush_much();
+        Ok(())
     }
 
     // A chunk of the input: every line that ends in it.
@@ -104,33 +107,35 @@ impl Replay<'_> {
         Ok(())
     }
 
-    // Chunk after chunk. A read that fails counts as the end of the input. A proved loop has to end, and nothing says that input does: the chunks are counted up to
-    // a number that no run reaches. By hand, as the console's loop is: over a closure that is lent each part, all of `self` would be the closure's.
-    fn read_all(&mut self, mut input: Stdin) -> fmt::Result {
+    // Chunk after chunk, each filled as far as the input goes. A read that fails counts as the end of the input. A proved loop has to end, and nothing says that input
+    // does: the chunks are counted up to a number that no run reaches. By hand, as the console's loop is: over a closure that is lent each part, all of `self` would be
+    // the closure's.
+    fn read_all(&mut self) -> fmt::Result {
         let mut chunk = [0; 65536];
         for _ in 0..u64::MAX {
-            let n = input.read(&mut chunk).unwrap_or(0);
+            let n = io::read_full(0, &mut chunk);
             if n == 0 {
                 break;
             }
             self.read_chunk(&chunk[..n])?;
         }
-        self.out.flush()
+        self.out.flush();
+        Ok(())
     }
 }
 
-// A write that fails ends the run, and there is nobody to tell. A function of its own: what is lent here is any array, and a proof in `main` would write out the zeros.
-fn run(input: Stdin, pool: &mut [u8; POOL]) {
+// A function of its own: what is lent here is any array, and a proof in `main` would write out the zeros.
+fn run(pool: &mut [u8; POOL]) {
     let mut replay = Replay {
         store: calls::create(1).unwrap_or_else(|refused| refused.store),
         pool,
         line: ArrayVec::new(),
         out: Output::new(),
     };
-    let _ = replay.read_all(input);
+    let _ = replay.read_all();
 }
 
-fn main(rt: HostRuntime) {
+fn main() {
     let mut pool = [0; POOL];
-    run(rt.stdin(), &mut pool);
+    run(&mut pool);
 }

@@ -21,8 +21,10 @@ fn page_shown(r: PageRange, p: Place) -> Option<usize> {
     r.start.0.checked_add((p.index - r.offset) as usize)
 }
 
-// How much is gathered before it is written.
+// How much may be gathered, and how much of it is written behind a line's answer.
 const GATHERED: usize = 65536;
+
+const MUCH: usize = 16384;
 
 #[derive(Drop)]
 pub struct Output {
@@ -42,16 +44,22 @@ impl Output {
         }
     }
 
-    // What is gathered is written.
-    pub fn flush(&mut self) -> fmt::Result {
-        let written = io::write_all(1, &self.gathered);
+    // What is gathered is written. Where it can't be, the lines are answered all the same: there is nobody to tell.
+    pub fn flush(&mut self) {
+        io::write_all(1, &self.gathered);
         self.gathered.clear();
-        written.then_some(()).ok_or(fmt::Error)
+    }
+
+    // The same, once there is much of it.
+    pub fn flush_much(&mut self) {
+        if MUCH < self.gathered.len() {
+            self.flush();
+        }
     }
 
     pub fn put(&mut self, bytes: &[u8]) -> fmt::Result {
         if self.gathered.remaining_capacity() < bytes.len() {
-            self.flush()?;
+            self.flush();
         }
         self.gathered
             .try_extend_from_slice(bytes)

@@ -1,13 +1,13 @@
 -- WHAT ONE LINE'S CALL HAS DONE, with the bytes of its answer.
-use Rattle.std.specs.Prelude.{◌≡◌, refl, List, [], ◌∷◌, ℕ, zero, suc, ◌≤◌, ◌<◌, length, Option, None, Some, Result, Ok, Err}
-use Rattle.std.proofs.Common.{ap, sym, subst, ◌∙◌, arith}
-use Rattle.arrayvec.specs.ArrayVec.{ArrayVec}
+use Rattle.std.specs.Prelude.{◌≡◌, refl, List, [], ◌∷◌, ℕ, zero, suc, ◌<◌, take, Option, None, Some, Result, Ok, Err}
+use Rattle.std.proofs.Common.{sym, subst, ◌∙◌, arith}
 use Rattle.store.specs.declared.Store.{Store}
 use Rattle.refusals.specs.declared.Refusal.{Refusal}
 use Rattle.refusals.specs.Number.{number, number_positive}
-use Rattle.book.specs.Book.{Call, Answer, done, read, bytes}
+use Rattle.book.specs.Book.{Call, Answer, done, read}
 use Rattle.calls.specs.Calls.{said}
 use Rattle.calls.specs.With.{DidWith}
+use Rattle.replies.specs.declared.spoken.Spoken.{Spoken}
 use Rattle.replies.specs.Line.{spoken, malformed}
 
 -- The call c on store s with the pool x: the bytes d of the answer, the store t handed back and the pool y left.
@@ -17,9 +17,13 @@ pub record Spoke (c : Call) (s : Store) (x : List ℕ) (d : List ℕ) (t : Store
   pub did : DidWith c s x number answer t y
   pub bytes : d ≡ spoken (said number answer)
 
+-- the bytes of an answer
+abbrev pub bytes_of : Spoken → List ℕ
+bytes_of d = take d.length d.bytes
+
 -- the bytes of a call's answer: "A refusal prints its byte alone."
-abbrev pub told : Result (ArrayVec ℕ) Refusal → List ℕ
-told (Ok d) = d.items
+abbrev pub told : Result Spoken Refusal → List ℕ
+told (Ok d) = bytes_of d
 told (Err e) = number e ∷ []
 
 -- The same of a call that lends no pool: whatever pool there is stays.
@@ -67,7 +71,7 @@ module _ {c : Call} {s t : Store} {x y : List ℕ} where
   spoke_done {k = k} {d = d} D e f = subst (λ v. Spoke c s x d v y) (sym f) (record { number = k; answer = done; did = D; bytes = e ∙ number_done k })
 
   -- "A refusal prints its byte alone."
-  pub spoke_refused : {a : Answer} (r : Result (ArrayVec ℕ) Refusal) (e : Refusal) → r ≡ Err e → DidWith c s x (number e) a t y → Spoke c s x (told r) t y
+  pub spoke_refused : {a : Answer} (r : Result Spoken Refusal) (e : Refusal) → r ≡ Err e → DidWith c s x (number e) a t y → Spoke c s x (told r) t y
   spoke_refused {a = a} r e f D = rw f (record { number = number e; answer = a; did = D; bytes = number_refused (number e) a (number_positive e) })
 
   pub spoke_answered : {a : Answer} {d : List ℕ} → DidWith c s x 0 a t y → d ≡ spoken a → Spoke c s x d t y

@@ -2,8 +2,9 @@
 #![tactic(auto)]
 
 mod command;
+mod spoken;
 
-ghost use Rattle.std.specs.Prelude.{◌≡◌, ◌≤◌, [], ◌∷◌, length};
+ghost use Rattle.std.specs.Prelude.{◌≡◌, [], ◌∷◌};
 ghost use Rattle.book.specs.Need.{state_byte};
 ghost use Rattle.look.specs.Found.{state_is};
 ghost use Rattle.book.specs.Book.{read, add, look_up, counts};
@@ -11,24 +12,14 @@ ghost use Rattle.replies.specs.Line.{two_of, malformed};
 ghost use Rattle.replies.specs.Command.{call_for};
 ghost use Rattle.refusals.specs.Number.{number_of};
 ghost use Rattle.calls.specs.Calls.{left};
-ghost use Rattle.replies.specs.Replies.{SpokeAlone, Spoke, told};
+ghost use Rattle.replies.specs.Replies.{SpokeAlone, Spoke, bytes_of, told};
 
-use arrayvec::ArrayVec;
 pub use command::Command;
 use look::State;
 use page::PageNumber;
 use refusals::Refusal;
+pub use spoken::Spoken;
 use store::Store;
-
-// The bytes of an answer.
-pub type Spoken = ArrayVec<u8, 256>;
-
-fn spoken(bytes: &[u8]) -> Spoken
-    requires { length bytes.now ≤ 256 }
-    ensures { result.items ≡ bytes.now }
-{
-    ArrayVec::try_from(bytes).unwrap()
-}
 
 // "(two bytes)", high byte first
 fn two(n: usize) -> [u8; 2]
@@ -56,19 +47,17 @@ fn done(s: &mut Store, r: Result<Store, Refusal>) -> Result<Spoken, Refusal>
     ensures store { s.new ≡ left s.old r }
 {
     *s = r?;
-    Ok(spoken(&[0]))
+    Ok(Spoken::new(&[0]))
 }
 
 // "then read data"
 fn read(s: &Store, pool: &[u8], object: u32, offset: usize, length: u8) -> Result<Spoken, Refusal>
     ensures { Spoke (read object offset length) s.now pool.now (told result) s.now pool.now }
 {
-    let mut data = [0; 255];
-    let data = &mut data[..usize::from(length)];
-    access::read(*s, pool, object, offset, data)?;
-    let mut spoken = spoken(&[0]);
-    spoken.try_extend_from_slice(data).unwrap();
-    Ok(spoken)
+    let n = usize::from(length);
+    let mut bytes = [0; 256];
+    access::read(*s, pool, object, offset, &mut bytes[1..=n])?;
+    Ok(Spoken::new(&bytes[..=n]))
 }
 
 // "the added frame (two bytes)"
@@ -78,7 +67,7 @@ fn add(s: &mut Store, pool: &mut [u8], object: u32, page: PageNumber) -> Result<
     let added = access::add(*s, pool, object, page)?;
     *s = added.store;
     let [high, low] = two(added.frame);
-    Ok(spoken(&[0, high, low]))
+    Ok(Spoken::new(&[0, high, low]))
 }
 
 // "`00` absent, `01` private, `02` shared"
@@ -86,7 +75,7 @@ fn look_up(s: &Store, object: u32, page: PageNumber) -> Result<Spoken, Refusal>
     ensures { SpokeAlone (look_up object page.0) s.now (told result) s.now }
 {
     let state = calls::look_up(*s, object, page)?;
-    Ok(spoken(&[0, state_byte(state)]))
+    Ok(Spoken::new(&[0, state_byte(state)]))
 }
 
 // "frames in use and ranges (two bytes each)"
@@ -96,7 +85,7 @@ fn counts(s: &Store) -> Result<Spoken, Refusal>
     let numbers = calls::counts(*s)?;
     let [frames_high, frames_low] = two(numbers.frames);
     let [ranges_high, ranges_low] = two(numbers.ranges);
-    Ok(spoken(&[0, frames_high, frames_low, ranges_high, ranges_low]))
+    Ok(Spoken::new(&[0, frames_high, frames_low, ranges_high, ranges_low]))
 }
 
 // The call made, and the bytes of its answer where it is done. By hand: the match of an enum, each of whose kinds has fields and a call of its own.
@@ -137,14 +126,14 @@ fn call(s: &mut Store, pool: &mut [u8], command: Command) -> Result<Spoken, Refu
 
 // THE CALL MADE, and the bytes of its answer. "A refusal prints its byte alone."
 pub fn answer(s: &mut Store, pool: &mut [u8], command: Command) -> Spoken
-    ensures { Spoke (call_for command.entry) s.old pool.old result.items s.new pool.new }
+    ensures { Spoke (call_for command.entry) s.old pool.old (bytes_of result) s.new pool.new }
 {
-    call(s, pool, command).unwrap_or_else(|refusal| spoken(&[u8::from(refusal)]))
+    call(s, pool, command).unwrap_or_else(|refusal| Spoken::new(&[u8::from(refusal)]))
 }
 
 // A line that asks for no call: it "prints `FF`".
 pub fn malformed() -> Spoken
-    ensures { result.items ≡ malformed }
+    ensures { bytes_of result ≡ malformed }
 {
-    spoken(&[255])
+    Spoken::new(&[255])
 }

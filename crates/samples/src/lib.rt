@@ -13,6 +13,7 @@ use places::Place;
 use refusals::Refusal;
 pub use reports::report;
 use std::array;
+use std::convert::AsSlice;
 use store::Store;
 use table::{BackingPages, PageRange};
 
@@ -202,7 +203,7 @@ pub fn shared(s: Store, object: u32, page: usize) -> bool {
 }
 
 // A store that is not sound: every call is refused with 1.
-pub fn spoiled(name: &str, s: Store) {
+pub fn spoiled<N: AsSlice<u8> + Drop>(name: N, s: Store) {
     let why = Refusal::Spoiled;
     let counted = calls::counts(s) == Err(why);
     let looked = state(s, 0, 0) == Err(why) && state(s, 32, 262144) == Err(why);
@@ -216,6 +217,6 @@ pub fn spoiled(name: &str, s: Store) {
 }
 
 // A sound one with so many frames in use and ranges.
-pub fn sound(name: &str, s: Store, frames: usize, ranges: usize) {
+pub fn sound<N: AsSlice<u8> + Drop>(name: N, s: Store, frames: usize, ranges: usize) {
     report(name, calls::counts(s) == Ok(Numbers { frames, ranges }));
 }

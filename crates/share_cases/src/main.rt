@@ -39,7 +39,7 @@ fn written_same() {
         24586,
         &[4, 4],
         thirds(),
-        &frames(&[1, 2, 4, 4, 5]),
+        &frames::<20480>(&[1, 2, 4, 4, 5]),
     );
 }
 
@@ -86,7 +86,7 @@ fn written_hole() {
 
 // From the last byte of page 0, nothing covered: page 1 joins page 0, and page 2 both.
 fn written_new() {
-    let mut want = frames(&[1, 2, 0, 12, 0]);
+    let mut want: [u8; 20480] = frames(&[1, 2, 0, 12, 0]);
     want[20479] = 11;
     want[8192] = 13;
     puts(
@@ -120,7 +120,7 @@ fn mixed() -> Store {
 }
 
 fn written_mixed() {
-    let mut want = frames(&[0, 12, 4, 4, 5]);
+    let mut want: [u8; 20480] = frames(&[0, 12, 4, 4, 5]);
     want[0] = 13;
     want[12287] = 11;
     puts(
@@ -136,7 +136,7 @@ fn written_mixed() {
 
 // Pages 0 and 1 of object 0 are the same page: the first is copied, the second is private by then.
 fn written_twice() {
-    let mut want = frames(&[1, 2, 3, 5, 5]);
+    let mut want: [u8; 20480] = frames(&[1, 2, 3, 5, 5]);
     want[16383] = b'x';
     want[16384] = b'y';
     puts(
@@ -170,7 +170,7 @@ fn taken() -> Store {
 
 fn written_released() {
     let t = released();
-    let mut want = frames(&[1, 2, 0, 5, 5]);
+    let mut want: [u8; 20480] = frames(&[1, 2, 0, 5, 5]);
     want[8192] = b'y';
     want[16383] = b'x';
     puts(

@@ -45,16 +45,23 @@ count v = length v.intervals.items
 abbrev pub interval_at : Cover → ℕ → Interval
 interval_at v c = get_or v.intervals.items c (record { backing = 0; first = 0; end = 0 })
 
+-- how many sizes of blocks there are
+abbrev pub size_count : Cover → ℕ
+size_count v = length v.sizes.items
+
+abbrev pub size_at : Cover → ℕ → ℕ
+size_at v j = get_or v.sizes.items j 0
+
 -- the place lies in one of the intervals
 abbrev pub covered : Cover → Place → Bool
 covered v p = not (all_below (λ c. not (within (interval_at v c) p)) (count v))
 
--- the intervals are in chains
+-- the intervals are in chains, by blocks of sizes up to 2^33
 pub record Filed (chain : ℕ → ℕ) (v : Cover) : Type 0 where
   pub few : count v ≤ 1024
   pub heads : length v.chains.heads ≡ 1024
   pub next : length v.chains.next ≡ 1024
-  pub sizes : length v.sizes ≡ 34
+  pub small : (j : ℕ) → j < size_count v → size_at v j ≤ 33
   pub chained : Chained chain (count v) v.chains.heads v.chains.next
 
 -- the slot of an interval of chain h that passes a test, or none where none of the chain does
@@ -89,13 +96,27 @@ pub record Put (chain : ℕ → ℕ) (v w : Cover) (h : ℕ) (a : Interval) : Ty
   pub grown : Grown chain chains v w a
   pub held : Held chains w h a
 
+-- size k is among the sizes, which are otherwise as they were and where they were
+pub record Sized (zs ys : List ℕ) (k : ℕ) : Type 0 where
+  pub more : length zs ≤ length ys
+  pub few : length ys ≤ length zs + 1
+  pub same : (j : ℕ) → j < length zs → get_or ys j 0 ≡ get_or zs j 0
+  pub new : (j : ℕ) → length zs ≤ j → j < length ys → get_or ys j 0 ≡ k
+  pub at : ℕ
+  pub below : at < length ys
+  pub here : get_or ys at 0 ≡ k
+
+-- so it is with the sizes of a cover, whose intervals stayed
+pub record Marked (v w : Cover) (k : ℕ) : Type 0 where
+  pub intervals : w.intervals ≡ v.intervals
+  pub chains : w.chains ≡ v.chains
+  pub sized : Sized v.sizes.items w.sizes.items k
+
 -- the interval was put into the chain of each block of 2^size indices that it meets
 pub record Entered (chain : ℕ → ℕ) (v w : Cover) (a : Interval) : Type 0 where
   pub chains : ℕ → ℕ
   pub size : ℕ
-  pub small : size < 34
-  pub flag : get_or w.sizes size false ≡ true
-  pub flags : (k : ℕ) → get_or v.sizes k false ≡ true → get_or w.sizes k false ≡ true
+  pub sized : Sized v.sizes.items w.sizes.items size
   pub few : count w ≤ count v + 2
   pub filed : Filed chains w
   pub grown : Grown chain chains v w a
@@ -104,17 +125,17 @@ pub record Entered (chain : ℕ → ℕ) (v w : Cover) (a : Interval) : Type 0 w
 -- an interval in the chain of the block of place p, of one of the sizes, has p
 pub record Entry (chain : ℕ → ℕ) (v : Cover) (p : Place) : Type 0 where
   pub size : ℕ
-  pub small : size < 34
-  pub flag : get_or v.sizes size false ≡ true
+  pub sized : size < size_count v
   pub at : ℕ
   pub below : at < count v
-  pub key : chain at ≡ key_of p.backing size (p.index / 2 ^ size)
+  pub key : chain at ≡ key_of p.backing (size_at v size) (p.index / 2 ^ size_at v size)
   pub has : within (interval_at v at) p ≡ true
 
 -- the intervals are those of the windows of the first m ranges
 pub record Covers (rs : List PageRange) (m : ℕ) (v : Cover) : Type 0 where
   pub chain : ℕ → ℕ
   pub few : count v ≤ m + m
+  pub sizes : size_count v ≤ m
   pub filed : Filed chain v
   pub inside : (c : ℕ) → c < count v → (p : Place) → within (interval_at v c) p ≡ true → all_below (outside rs p) m ≡ false
   pub entry : (i : ℕ) (p : Place) → i < m → in_window rs p i ≡ true → Entry chain v p
@@ -132,8 +153,8 @@ Shown v p (Some a) = (within a p ≡ true) × ((q : Place) → within a q ≡ tr
 
 -- no interval has place p, in the chain of its block of one of the first k sizes
 pub record Missed (v : Cover) (p : Place) (k : ℕ) : Type 0 where
-  pub none : (j : ℕ) → j < k → get_or v.sizes j false ≡ true → (chain : ℕ → ℕ) → Filed chain v
-      → (c : ℕ) → c < count v → chain c ≡ key_of p.backing j (p.index / 2 ^ j) → within (interval_at v c) p ≡ false
+  pub none : (j : ℕ) → j < k → (chain : ℕ → ℕ) → Filed chain v
+      → (c : ℕ) → c < count v → chain c ≡ key_of p.backing (size_at v j) (p.index / 2 ^ size_at v j) → within (interval_at v c) p ≡ false
 
 -- ---- the walk along a chain
 -- no interval of the chain from link k on passes the test
@@ -322,7 +343,7 @@ module _ (chain : ℕ → ℕ) (v : Cover) (h : ℕ) (a : Interval) (F : Filed c
     put_united = record {
       chains = chain;
       few = omega (arith, as_many);
-      filed = record { few = omega (arith, as_many, F.few); heads = F.heads; next = F.next; sizes = F.sizes; chained = rw as_many F.chained };
+      filed = record { few = omega (arith, as_many, F.few); heads = F.heads; next = F.next; small = F.small; chained = rw as_many F.chained };
       sizes = refl;
       grown = record {
         more = omega (arith, as_many);
@@ -374,7 +395,7 @@ module _ (chain : ℕ → ℕ) (v : Cover) (h : ℕ) (a : Interval) (F : Filed c
         few = omega (arith, one_more);
         heads = simp length-set F.heads;
         next = simp length-set F.next;
-        sizes = F.sizes;
+        small = F.small;
         chained =
             let C = chained_alike chain after (count v) v.chains.heads v.chains.next (λ k l. sym (before k l)) F.chained in
             rw one_more (rw last at (chained_next after v.chains.heads v.chains.next (count v) C F.heads (omega (arith, F.next)) (omega (arith, last))));
@@ -414,34 +435,39 @@ module _ (c d : ℕ → ℕ) (v w : Cover) (a : Interval) (G : Grown c d v w a) 
 held_at : (chain : ℕ → ℕ) (v : Cover) (h g : ℕ) (a : Interval) → h ≡ g → Held chain v h a → Held chain v g a
 held_at chain v h g a e H = record { at = H.at; below = H.below; key = H.key ∙ e; wide = H.wide }
 
--- a size is marked
-abbrev pub marked : Cover → ℕ → Cover
-marked v k = record { intervals = v.intervals; chains = v.chains; sizes = set v.sizes k true }
+-- ---- a size is marked
+module _ (chain : ℕ → ℕ) (v u : Cover) (k : ℕ) (F : Filed chain v) (n : k ≤ 33) (M : Marked v u k) where
+  as_many_marked : count u ≡ count v
+  as_many_marked = ap (λ i. length i.items) M.intervals
 
-module _ (chain : ℕ → ℕ) (v : Cover) (k : ℕ) (F : Filed chain v) where
-  pub filed_marked : Filed chain (marked v k)
-  filed_marked = record { few = F.few; heads = F.heads; next = F.next; sizes = simp length-set F.sizes; chained = F.chained }
+  pub filed_marked : Filed chain u
+  filed_marked = record {
+    few = omega (arith, as_many_marked, F.few);
+    heads = ap (λ c. length c.heads) M.chains ∙ F.heads;
+    next = ap (λ c. length c.next) M.chains ∙ F.next;
+    small = λ j l.
+        by-lt j (size_count v)
+        (λ m. omega (arith, M.sized.same j m, F.small j m))
+        (λ m. omega (arith, M.sized.new j m l));
+    chained = rw (M.intervals, M.chains) F.chained;
+  }
 
-  grown_unmarked : (d : ℕ → ℕ) (w : Cover) (a : Interval) → Grown chain d (marked v k) w a → Grown chain d v w a
-  grown_unmarked d w a G = record { more = G.more; same = G.same; wider = G.wider; sound = G.sound }
+  grown_unmarked : (d : ℕ → ℕ) (w : Cover) (a : Interval) → Grown chain d u w a → Grown chain d v w a
+  grown_unmarked d w a G = record {
+    more = omega (arith, as_many_marked, G.more);
+    same = λ i l. G.same i (omega (arith, as_many_marked));
+    wider = λ i l p t. G.wider i (omega (arith, as_many_marked)) p (rw M.intervals t);
+    sound = λ P old new. G.sound P (λ c l p t. old c (omega (arith, as_many_marked)) p (rw M.intervals at t)) new;
+  }
 
-  module _ (b : k < 34) (x : Cover) (e : x.sizes ≡ set v.sizes k true) where
-    flag_marked : get_or x.sizes k false ≡ true
-    flag_marked = ap (λ l. get_or l k false) e ∙ get_or-set_same v.sizes k true false (omega (arith, F.sizes))
-
-    flags_marked : (j : ℕ) → get_or v.sizes j false ≡ true → get_or x.sizes j false ≡ true
-    flags_marked j t = by-eq j k (λ q. rw q flag_marked) (λ q. ap (λ l. get_or l j false) e ∙ get_or-set_other v.sizes k j true false q ∙ t)
-
-  module _ (b : k < 34) (w : Cover) (a : Interval) (h : ℕ) (e : h ≡ key_of a.backing k (a.first / 2 ^ k)) (P : Put chain (marked v k) w h a) where
+  module _ (w : Cover) (a : Interval) (h : ℕ) (e : h ≡ key_of a.backing k (a.first / 2 ^ k)) (P : Put chain u w h a) where
     -- it lies in one block
     pub entered_one : (a.end - 1) / 2 ^ k ≤ a.first / 2 ^ k → Entered chain v w a
     entered_one d = record {
       chains = P.chains;
       size = k;
-      small = b;
-      flag = flag_marked b w P.sizes;
-      flags = flags_marked b w P.sizes;
-      few = omega (arith, P.few);
+      sized = rw P.sizes M.sized;
+      few = omega (arith, as_many_marked, P.few);
       filed = P.filed;
       grown = grown_unmarked P.chains w a P.grown;
       held = λ j u l.
@@ -454,10 +480,8 @@ module _ (chain : ℕ → ℕ) (v : Cover) (k : ℕ) (F : Filed chain v) where
     entered_two n x g d Q = record {
       chains = Q.chains;
       size = k;
-      small = b;
-      flag = flag_marked b x (Q.sizes ∙ P.sizes);
-      flags = flags_marked b x (Q.sizes ∙ P.sizes);
-      few = omega (arith, P.few, Q.few);
+      sized = rw (Q.sizes, P.sizes) M.sized;
+      few = omega (arith, as_many_marked, P.few, Q.few);
       filed = Q.filed;
       grown = grown_on chain P.chains v w a (grown_unmarked P.chains w a P.grown) Q.chains x Q.grown;
       held = λ j u l.
@@ -482,16 +506,17 @@ fails_below P (suc m) h =
     (λ e. let r = fails_below P m (rw e at h) in (r.0, omega (arith, r.1), r.2))
     (λ e. (m, omega arith, e))
 
-pub covers_none : (rs : List PageRange) (v : Cover) → count v ≡ 0 → length v.sizes ≡ 34 → v.chains.heads ≡ replicate 1024 0 → v.chains.next ≡ replicate 1024 0
+pub covers_none : (rs : List PageRange) (v : Cover) → count v ≡ 0 → size_count v ≡ 0 → v.chains.heads ≡ replicate 1024 0 → v.chains.next ≡ replicate 1024 0
     → Covers rs 0 v
 covers_none rs v e m h n = record {
   chain = chain_by rs;
   few = omega arith;
+  sizes = omega arith;
   filed = record {
     few = omega arith;
     heads = ap length h ∙ length-replicate {A = ℕ} 1024 0;
     next = ap length n ∙ length-replicate {A = ℕ} 1024 0;
-    sizes = m;
+    small = λ j u. absurd (omega arith);
     chained = rw e (chains_none rs v.chains h);
   };
   inside = λ c u. absurd (omega arith);
@@ -504,6 +529,7 @@ module _ (rs : List PageRange) (m : ℕ) (v : Cover) (C : Covers rs m v) where
   covers_skip e = record {
     chain = C.chain;
     few = omega (arith, C.few);
+    sizes = omega (arith, C.sizes);
     filed = C.filed;
     inside = λ c u p w. still_false (outside rs p) m (C.inside c u p w);
     entry = λ i p u t. by-eq i m (λ q. absurd (none p (rw q at t))) (λ q. C.entry i p (omega arith) t);
@@ -532,11 +558,10 @@ module _ (rs : List PageRange) (m : ℕ) (v : Cover) (C : Covers rs m v) where
         let O = C.entry i p (omega arith) t in
         record {
           size = O.size;
-          small = O.small;
-          flag = E.flags O.size O.flag;
+          sized = omega (arith, E.sized.more, O.sized);
           at = O.at;
           below = omega (arith, E.grown.more, O.below);
-          key = E.grown.same O.at O.below ∙ O.key;
+          key = rw (E.sized.same O.size O.sized) (E.grown.same O.at O.below ∙ O.key);
           has = E.grown.wider O.at O.below p O.has;
         })
       where
@@ -546,12 +571,11 @@ module _ (rs : List PageRange) (m : ℕ) (v : Cover) (C : Covers rs m v) where
             let W = is_within a p x in
             let H = E.held p.index W.first W.end in
             record {
-              size = E.size;
-              small = E.small;
-              flag = E.flag;
+              size = E.sized.at;
+              sized = E.sized.below;
               at = H.at;
               below = H.below;
-              key = H.key ∙ ap (λ (b : ℕ). key_of b E.size (p.index / 2 ^ E.size)) (sym W.backing);
+              key = rw E.sized.here (H.key ∙ ap (λ (b : ℕ). key_of b E.size (p.index / 2 ^ E.size)) (sym W.backing));
               has = H.wide p x;
             }
 
@@ -559,6 +583,7 @@ module _ (rs : List PageRange) (m : ℕ) (v : Cover) (C : Covers rs m v) where
     covers_next = record {
       chain = E.chains;
       few = omega (arith, C.few, E.few);
+      sizes = omega (arith, C.sizes, E.sized.few);
       filed = E.filed;
       inside = λ c u p x. not-true (all_below (outside rs p) (m + 1)) (passes c u p x);
       entry = entered;
@@ -576,6 +601,19 @@ module _ (rs : List PageRange) (m : ℕ) (v : Cover) (C : Covers rs m v) where
   inside_true p t =
       let r = fails_below (outside rs p) m t in
       by-test (in_window rs p r.0) (λ e. C.entry r.0 p r.1 e) (λ e. absurd (false≢true (sym r.2 ∙ ap not e)))
+
+  -- a place that no interval has, in the chain of its block of any of the sizes, lies in no window of the first m ranges
+  pub missed_outside : (p : Place) → Missed v p (size_count v) → all_below (outside rs p) m ≡ true
+  missed_outside p M =
+      by-test (all_below (outside rs p) m)
+      (λ t. t)
+      (λ t.
+      let E = inside_true p t in
+      absurd (false≢true (sym (M.none E.size E.sized C.chain C.filed E.at E.below E.key) ∙ E.has)))
+
+  -- each place of an interval lies in a window of one of them
+  pub shown_hit : (c : ℕ) → c < count v → (q : Place) → within (interval_at v c) q ≡ true → all_below (outside rs q) m ≡ false
+  shown_hit = C.inside
 
   pub covers_exact : m ≡ length rs → (p : Place) → covered v p ≡ named p.backing p.index (ranges_of rs)
   covers_exact e p =
@@ -600,36 +638,31 @@ module _ (v : Cover) (p : Place) where
   pub missed_none : Missed v p 0
   missed_none = record { none = λ j u. absurd (omega arith) }
 
-  module _ (k : ℕ) (M : Missed v p k) where
-    -- no interval is of this size
-    pub missed_skip : get_or v.sizes k false ≡ false → Missed v p (k + 1)
-    missed_skip e = record {
-      none = λ j u t.
-          by-eq j k
-          (λ q. absurd (false≢true (sym e ∙ rw q at t)))
-          (λ q. M.none j (omega arith) t);
-    }
-
-    -- none has it
-    pub missed_next : ((chain : ℕ → ℕ) → Filed chain v → (c : ℕ) → c < count v → chain c ≡ key_of p.backing k (p.index / 2 ^ k) → within (interval_at v c) p ≡ false)
-        → Missed v p (k + 1)
-    missed_next f = record { none = λ j u t. by-eq j k (λ q. rw q f) (λ q. M.none j (omega arith) t) }
+  -- none of size number k has it
+  pub missed_next : (k : ℕ) → Missed v p k
+      → ((chain : ℕ → ℕ) → Filed chain v → (c : ℕ) → c < count v → chain c ≡ key_of p.backing (size_at v k) (p.index / 2 ^ size_at v k) → within (interval_at v c) p ≡ false)
+      → Missed v p (k + 1)
+  missed_next k M f = record { none = λ j u. by-eq j k (λ q. rw q f) (λ q. M.none j (omega arith)) }
 
   module _ (I : Indexed v) where
-    pub shown_none : Missed v p 34 → Shown v p None
+    pub shown_none : Missed v p (size_count v) → Shown v p None
     shown_none M =
         by-test (covered v p)
         (λ t.
         let E = I.entry p t in
-        absurd (false≢true (sym (M.none E.size E.small E.flag I.chain I.filed E.at E.below E.key) ∙ E.has)))
+        absurd (false≢true (sym (M.none E.size E.sized I.chain I.filed E.at E.below E.key) ∙ E.has)))
         (λ t. t)
 
     pub shown_some : (c : ℕ) → c < count v → within (interval_at v c) p ≡ true → Shown v p (Some (interval_at v c))
     shown_some c u e = (e, λ q w. covered_by v q c u w)
 
   -- the same where there is such a way through the chains
-  pub missed_shown : ∥ Indexed v ∥₁ → Missed v p 34 → Shown v p None
+  pub missed_shown : ∥ Indexed v ∥₁ → Missed v p (size_count v) → Shown v p None
   missed_shown I M = ∥∥₁_elim I (hlevel props) (λ J. shown_none J M)
 
   pub hit_shown : ∥ Indexed v ∥₁ → (c : ℕ) → c < count v → ((chain : ℕ → ℕ) → Filed chain v → within (interval_at v c) p ≡ true) → Shown v p (Some (interval_at v c))
   hit_shown I c u f = (∥∥₁_elim I (hlevel props) (λ J. f J.chain J.filed), λ q w. covered_by v q c u w)
+
+-- each of the sizes is small where there is such a way
+pub small_size : (v : Cover) → ∥ Indexed v ∥₁ → (zs : List ℕ) → zs ≡ v.sizes.items → (j : ℕ) → j < length zs → get_or zs j 0 ≤ 33
+small_size v I zs e j = rw e (λ u. ∥∥₁_elim I (hlevel props) (λ J. J.filed.small j u))

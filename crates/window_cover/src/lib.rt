@@ -6,7 +6,7 @@ ghost use Rattle.std.specs.Prelude.{◌≡◌, ℕ, false, true, ◌+◌, ◌-�
 ghost use Rattle.table.specs.Table.{number_of, ranges_of};
 ghost use Rattle.ranges.specs.Table.{named};
 ghost use Rattle.places.specs.declared.Place.{Place};
-ghost use Rattle.window_cover.specs.Intervals.{within, meets, united, key_of, count, covered, First, Filed, Put, Entered, Indexed, Shown};
+ghost use Rattle.window_cover.specs.Intervals.{within, meets, united, key_of, count, covered, First, Filed, Put, Marked, Entered, Indexed, Shown};
 
 use arrayvec::ArrayVec;
 use chains::Chains;
@@ -79,12 +79,12 @@ fn chain_of(backing: u32, size: usize, block: usize) -> usize
     (backing as usize % 1024 * 633 + size * 101 + (block + block / 1024)) % 1024
 }
 
-// Intervals in the chains of the blocks that they meet, and which sizes of blocks there are.
+// Intervals in the chains of the blocks that they meet, and the sizes of blocks that there are, each once, in the order in which they came.
 #[derive(Drop)]
 pub struct Cover {
     pub intervals: ArrayVec<Interval, 1024>,
     pub chains: Chains,
-    pub sizes: [bool; 34],
+    pub sizes: ArrayVec<u8, 512>,
 }
 
 impl Cover {
@@ -119,15 +119,25 @@ impl Cover {
         }
     }
 
+    // A size put among the sizes, where it is not there yet.
+    fn mark(&mut self, size: u8)
+        requires { length self.old.sizes.items < 512 }
+        ensures { Marked self.old self.new size }
+    {
+        if !self.sizes.contains(&size) {
+            self.sizes.push(size);
+        }
+    }
+
     // The same into the chain of each block that it meets.
     fn enter(&mut self, interval: Interval)
-        requires { (interval.first < interval.end) × (interval.end < 8589934592) × (count self.old ≤ 1022) }
+        requires { (interval.first < interval.end) × (interval.end < 8589934592) × (count self.old ≤ 1022) × (length self.old.sizes.items < 512) }
         ensures { (chain : ℕ → ℕ) → Filed chain self.old → Entered chain self.old self.new interval }
     {
         let size = interval.size();
         let low = interval.first as usize >> size;
         let high = (interval.end - 1) >> size;
-        self.sizes[size] = true;
+        self.mark(size as u8);
         self.put(chain_of(interval.backing, size, low), interval);
         if low < high {
             self.put(chain_of(interval.backing, size, high), interval);
@@ -143,7 +153,7 @@ impl Cover {
         let mut cover = Cover {
             intervals: ArrayVec::new(),
             chains: Chains::new(),
-            sizes: [false; 34],
+            sizes: ArrayVec::new(),
         };
         for r in ranges {
             if let Some(interval) = Interval::of(*r) {
@@ -158,12 +168,11 @@ impl Cover {
         requires { ∥ Indexed self.now ∥₁ }
         ensures { Shown self.now place result }
     {
-        for (size, used) in self.sizes.iter().enumerate() {
-            if *used {
-                let h = chain_of(place.backing, size, place.index as usize >> size);
-                if let Some(i) = self.first_of(h, |a| a.has(place)) {
-                    return Some(self.intervals[i]);
-                }
+        let sizes = self.sizes.as_slice();
+        for size in sizes {
+            let h = chain_of(place.backing, *size as usize, place.index as usize >> *size);
+            if let Some(i) = self.first_of(h, |a| a.has(place)) {
+                return Some(self.intervals[i]);
             }
         }
         None

@@ -140,23 +140,26 @@ pub fn dropped(s: &Store, times: usize) -> usize {
     turns(s, BLINKING, times, |t, _| calls::drop_object(*t, 0).is_ok())
 }
 
-// ---- look up of every page of record 0: all are present
-fn range_looked(mut s: Store, range: Pages) -> bool {
-    (range.first..range.first + range.count).all(|page| {
-        s.live ^= BLINKING;
-        calls::look_up(s, 0, PageNumber(page)).is_ok_and(|state| state != State::Absent)
+// ---- look up of every page of record 0: how many are present
+fn range_looked(s: &Store, range: Pages) -> usize
+    ensures { result ≤ range.count }
+{
+    turns(s, BLINKING, range.count, |t, i| {
+        let page = PageNumber(range.first.saturating_add(i));
+        calls::look_up(*t, 0, page).is_ok_and(|state| state != State::Absent)
     })
 }
 
 // Each eighth range is in record 0.
-fn record_looked(s: Store, own: Parts) -> bool {
-    (0..own.ranges)
-        .step_by(8)
-        .all(|i| range_looked(s, own.apart(i)))
+fn record_looked(s: &Store, own: Parts) -> bool {
+    (0..own.ranges).step_by(8).all(|i| {
+        let range = own.apart(i);
+        range_looked(s, range) == range.count
+    })
 }
 
 pub fn looked(s: &Store, own: Parts, times: usize) -> usize {
-    turns(s, STEADY, times, |t, _| record_looked(*t, own))
+    turns(s, STEADY, times, |t, _| record_looked(t, own))
 }
 
 // ---- zeroing record 0, hand-over of record 0 to record 30

@@ -76,7 +76,7 @@ fn bytes_shared() {
 
 // Pages 0 and 1 of object 0 are the same page: the first is copied, the second is private by then.
 fn bytes_twice() {
-    let mut want = frames(&[1, 2, 3, 5, 5]);
+    let mut want: [u8; 20480] = frames(&[1, 2, 3, 5, 5]);
     want[16383] = 0;
     want[16384] = 0;
     zeroes(

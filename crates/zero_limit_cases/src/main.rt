@@ -160,7 +160,7 @@ fn two_slots() {
     let s = rows(509, &[a], &p, 15);
     let last = [single(0, 1019, 1, 0, 2), many(0, 1020, 1, 511, 1)];
     let t = rows(510, &last, &high(place(2, 0), FREE), 23);
-    let mut want = frames(&[1, 2, 3, 5, 5]);
+    let mut want: [u8; 20480] = frames(&[1, 2, 3, 5, 5]);
     want[12288] = 0;
     let byte = extent(0, 4173824, 1);
     zeroes("510 ranges: a byte of a shared page", s, byte, t, &want);

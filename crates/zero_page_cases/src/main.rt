@@ -108,7 +108,7 @@ fn parts() {
     let a = [many(0, 0, 1, 0, 1), single(0, 2, 1, 0, 2)];
     let p = [FREE, place(2, 0), FREE, FREE, place(1, 0)];
     let t = small(3, &a, &p, 13);
-    let want = filled(frames(&[1, 3, 3, 4, 5]), 20384, 96, 0);
+    let want: [u8; 20480] = filled(frames(&[1, 3, 3, 4, 5]), 20384, 96, 0);
     let want = filled(want, 4096, 10, 0);
     let parts = extent(0, 4000, 4202);
     zeroes(

@@ -9,4 +9,4 @@ returns-in_err-added c = spoke_refused c.from_residual.result c.in_err-added.fie
 
 pub returns : goal.returns
 unfolding spoken
-returns c = spoke_answered c.in_ok-added.ensures (c.spoken.ensures ∙ ap (λ d. 0 ∷ get_or d 0 0 ∷ get_or d 1 0 ∷ []) c.two.ensures)
+returns c = spoke_answered c.in_ok-added.ensures (c.new.ensures ∙ ap (λ d. 0 ∷ get_or d 0 0 ∷ get_or d 1 0 ∷ []) c.two.ensures)

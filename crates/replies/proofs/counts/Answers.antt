@@ -12,4 +12,4 @@ pub returns : goal.returns
 unfolding spoken
 returns c =
     λ x. spoke_answered (did_with _ _ _ _ _ c.in_ok-numbers.ensures x)
-    (c.spoken.ensures ∙ ap₂ (λ d e. 0 ∷ get_or d 0 0 ∷ get_or d 1 0 ∷ get_or e 0 0 ∷ get_or e 1 0 ∷ []) c.two.ensures c.two-2.ensures)
+    (c.new.ensures ∙ ap₂ (λ d e. 0 ∷ get_or d 0 0 ∷ get_or d 1 0 ∷ get_or e 0 0 ∷ get_or e 1 0 ∷ []) c.two.ensures c.two-2.ensures)

@@ -10,4 +10,4 @@ returns-in_err-state c = λ x. spoke_refused c.from_residual.result c.in_err-sta
 
 pub returns : goal.returns
 unfolding spoken
-returns c = λ x. spoke_answered (did_with _ _ _ _ _ c.in_ok-state.ensures x) (c.spoken.ensures ∙ ap (λ b. 0 ∷ b ∷ []) c.state_byte.ensures)
+returns c = λ x. spoke_answered (did_with _ _ _ _ _ c.in_ok-state.ensures x) (c.new.ensures ∙ ap (λ b. 0 ∷ b ∷ []) c.state_byte.ensures)
