@@ -21,7 +21,7 @@ const POOL: usize = 4194304;
 
 // What a store holds, printed.
 fn tell(out: &mut Output, store: &Store, pool: &[u8]) -> fmt::Result {
-    write!(out, "{}", Holdings { store, pool })
+    Holdings { store, pool }.tell(out)
 }
 
 // A digit's value; what is no digit counts as 0. By hand: std's `to_digit` takes small letters for digits too.

@@ -21,7 +21,7 @@ fn page_shown(r: PageRange, p: Place) -> Option<usize> {
     r.start.0.checked_add((p.index - r.offset) as usize)
 }
 
-// How much may be gathered, and how much of it is written behind a line's answer.
+// How much may be gathered, and how much of it is written behind a range or a line's answer.
 const GATHERED: usize = 65536;
 
 const MUCH: usize = 16384;
@@ -75,20 +75,43 @@ pub struct Holdings<'a> {
 }
 
 impl Holdings<'_> {
-    // The present pages of a range.
-    fn pages<W: Write>(&self, f: &mut Formatter<W>, r: PageRange) -> fmt::Result {
+    // An object and its ranges. Once there is much of them, they are written behind a range.
+    fn tell_object(&self, out: &mut Output, object: u32) -> fmt::Result {
         let s = self.store;
-        for (frame, p) in s.places.iter().enumerate().take(s.frames) {
-            if let Some(page) = page_shown(r, *p) {
-                let hash = hash(pool::show_ref(self.pool, Some(frame)));
-                writeln!(f, "p {page:05x} {frame:03x} {hash:012x}")?;
-            }
+        writeln!(out, "o {object:02x}")?;
+        for r in s.ranges.iter().take(s.count).filter(|r| r.object == object) {
+            let held = Held {
+                holdings: *self,
+                range: *r,
+            };
+            write!(out, "{held}")?;
+            out.flush_much();
         }
         Ok(())
     }
 
-    fn range<W: Write>(&self, f: &mut Formatter<W>, r: PageRange) -> fmt::Result {
-        let s = self.store;
+    // The live objects, and a full stop.
+    pub fn tell(&self, out: &mut Output) -> fmt::Result {
+        for object in 0..32 {
+            if is_live(self.store.live, object) {
+                self.tell_object(out, object)?;
+            }
+        }
+        out.write_str(".\n")
+    }
+}
+
+// A range that a store holds.
+#[derive(Clone, Copy)]
+struct Held<'a> {
+    holdings: Holdings<'a>,
+    range: PageRange,
+}
+
+impl Held<'_> {
+    fn fmt_range<W: Write>(&self, f: &mut Formatter<W>) -> fmt::Result {
+        let s = self.holdings.store;
+        let r = self.range;
         let number = r.backing.number();
         let holds = |q: &PageRange| q.backing.number() == number;
         let mut ranges = s.ranges.iter().take(s.count);
@@ -101,27 +124,19 @@ impl Holdings<'_> {
             "r {start:05x} {length:05x} {offset:05x} {first:03x} {letter}"
         )
     }
-
-    // An object, its ranges and their pages.
-    fn object<W: Write>(&self, f: &mut Formatter<W>, object: u32) -> fmt::Result {
-        let s = self.store;
-        writeln!(f, "o {object:02x}")?;
-        for r in s.ranges.iter().take(s.count).filter(|r| r.object == object) {
-            self.range(f, *r)?;
-            self.pages(f, *r)?;
-        }
-        Ok(())
-    }
 }
 
-// The live objects, and a full stop.
-impl Display for Holdings<'_> {
+// The range and its present pages.
+impl Display for Held<'_> {
     fn fmt<W: Write>(&self, f: &mut Formatter<W>) -> fmt::Result {
-        for object in 0..32 {
-            if is_live(self.store.live, object) {
-                self.object(f, object)?;
+        self.fmt_range(f)?;
+        let Holdings { store, pool } = self.holdings;
+        for (frame, p) in store.places.iter().enumerate().take(store.frames) {
+            if let Some(page) = page_shown(self.range, *p) {
+                let hash = hash(pool::show_ref(pool, Some(frame)));
+                writeln!(f, "p {page:05x} {frame:03x} {hash:012x}")?;
             }
         }
-        f.write_str(".\n")
+        Ok(())
     }
 }
