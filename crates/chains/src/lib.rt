@@ -5,7 +5,7 @@
 
 ghost use Rattle.std.specs.Prelude.{◌≡◌, List, ℕ, ◌+◌, ◌≤◌, ◌<◌, get_or, replicate, set};
 ghost use Rattle.std.specs.Iterator.{YieldsFirst, item_count};
-ghost use Rattle.chains.specs.Entries.{entries, link_of};
+ghost use Rattle.chains.specs.Entries.{entries, entries_below, link_of, link_to};
 
 use std::marker::Model;
 
@@ -42,10 +42,7 @@ impl Chains {
         requires { h < 1024 }
         ensures { result ≡ entries self.now.next (get_or self.now.heads h 0) }
     {
-        Chain {
-            next: &self.next,
-            link: self.heads[h],
-        }
+        Chain::at(&self.next, self.heads[h], 1024)
     }
 
     // Those of the chain of entry i that come behind it.
@@ -53,10 +50,7 @@ impl Chains {
         requires { i < 1024 }
         ensures { result ≡ entries self.now.next (get_or self.now.next i 0) }
     {
-        Chain {
-            next: &self.next,
-            link: self.next[i],
-        }
+        Chain::at(&self.next, self.next[i], 1024)
     }
 }
 
@@ -67,29 +61,39 @@ pub fn entry(link: u16) -> Option<usize>
     usize::from(link).checked_sub(1)
 }
 
-// The link to the next lower entry than i. Not compiled into the walk, so that a chain that falls, as all that are made do, waits for no comparison.
-#[inline(never)]
-fn lower(i: usize) -> u16
-    requires { i < 1024 }
-    ensures { result ≡ i }
-{
-    i as u16
-}
-
-// What is left of a chain: seen as the list of its entries.
+// What is left of a chain: seen as the list of its entries. By hand: a flag beside the entry to come, which an `Option` of it has, too; but a walk would wait for the comparison
+// then (tried: 1.6 times as long on long chains).
 #[derive(Drop)]
 pub struct Chain<'a> {
     next: &'a [u16; 1024],
-    link: u16,
+    entry: usize,
+    more: bool,
+    ghost inside: { link_to more entry ≤ 1024 },
+}
+
+impl<'a> Chain<'a> {
+    // The entries below `end`, from a link on.
+    fn at(next: &'a [u16; 1024], link: u16, end: usize) -> Chain<'a>
+        requires { end ≤ 1024 }
+        ensures { result ≡ entries_below next.now end link }
+    {
+        // link 0 wraps, to an entry that there is not: one test tells both
+        let entry = usize::from(link).wrapping_sub(1);
+        Chain {
+            next,
+            entry,
+            more: entry < end,
+        }
+    }
 }
 
 impl<'a> Model for Chain<'a> {
     ghost Value = { List ℕ };
 
-    ghost view = { λ s. entries s.next.now s.link };
+    ghost view = { λ s. entries s.next.now (link_to s.more s.entry) };
 }
 
-// A link that leads no lower than its own entry counts as one to the next lower entry, so that every chain ends.
+// A link that leads no lower than its own entry leads to none, so that every chain ends.
 impl Iterator for Chain<'_> {
     type Item = usize;
 
@@ -98,15 +102,11 @@ impl Iterator for Chain<'_> {
     ghost remaining = { item_count (λ s. s) };
 
     fn next(&mut self) -> Option<usize> {
-        let next = self.next;
-        // link 0 wraps, to an entry that there is not: the test that ends a chain is one, and a step waits for its link alone
-        let i = usize::from(self.link).wrapping_sub(1);
-        let link = *next.get(i)?;
-        self.link = if usize::from(link) <= i {
-            link
-        } else {
-            lower(i)
-        };
+        if !self.more {
+            return None;
+        }
+        let i = self.entry;
+        *self = Chain::at(self.next, self.next[i], i);
         Some(i)
     }
 }

@@ -1,9 +1,10 @@
 -- The tests of a frame's place and of its bit, made as one.
-use Rattle.std.specs.Prelude.{◌≡◌, refl, Bool, true, false, not, ◌&&◌, ◌||◌, List, ℕ, zero, suc, ◌+◌, ◌-◌, ◌*◌, ◌/◌, ◌%◌, ◌^◌, ◌≤◌, ◌<◌, eqb, ltb, get_or, count_by, drop, length, take}
-use Rattle.std.proofs.Common.{sym, ap, ◌∙◌, pow-suc, add-one, get_or-drop, get_or-take, le-ltb, lt-ltb, ne_eqb}
+use Rattle.std.specs.Prelude.{◌≡◌, refl, Bool, true, false, not, ◌&&◌, ◌||◌, List, [], ◌∷◌, ◌++◌, ℕ, zero, suc, ◌+◌, ◌-◌, ◌*◌, ◌/◌, ◌%◌, ◌^◌, ◌≤◌, ◌<◌, eqb, ltb, get_or, drop, length, take}
+use Rattle.std.proofs.Common.{sym, ap, ◌∙◌, pow-suc, add-one, get_or-drop, get_or-take, le-ltb, lt-ltb}
 use Rattle.std.proofs.lemmas.Bool.{false≢true}
 use Rattle.std.proofs.lemmas.List.{length-take}
-use Rattle.std.proofs.lemmas.List.Sums.{count_by_more_no, count_by_more_yes}
+use Rattle.std.specs.List.{list_all}
+use Rattle.std.proofs.lemmas.List.Folds.{list_all-append, list_all_more}
 use Rattle.std.proofs.Math.Nat.{div-div-eq-div-mul, zero-div}
 use native.Mathlib.Omega.{arith}
 use Rattle.places.specs.declared.Place.{Place}
@@ -109,22 +110,28 @@ module _ (n : ℕ) (ps : List Place) (ws : List ℕ) (i : ℕ) where
       (λ h. absurd (false≢true (sym q ∙ at_below (word_kept? n ps (get_or ws i 0) (i * 64)) 64 (λ k b. kept_word k b ∙ below_at (kept? n ps ws) 1024 h (i * 64 + k) (omega arith)))))
       (λ h. sym h)
 
--- ---- none of the first n elements is counted
-pub none_counted : {A : Type 0} (P : A → Bool) (d : A) (l : List A) (Q : ℕ → Bool) (n : ℕ) → n ≤ length l → ((k : ℕ) → k < n → Q k ≡ not (P (get_or l k d))) → eqb (count_by P (take n l)) 0 ≡ all_below Q n
-unfolding all_below
-none_counted P d l Q zero m e = refl
-none_counted P d l Q (suc n) m e =
-    by-test (P (get_or l n d))
-    (λ t.
-    let c : count_by P (take (suc n) l) ≡ count_by P (take n l) + 1 = ap (λ (k : ℕ). count_by P (take k l)) (sym (add-one n)) ∙ count_by_more_yes P l n d (omega arith) t in
-    ne_eqb (count_by P (take (suc n) l)) 0 (λ z. omega arith) ∙ rw (e n (omega arith), t))
-    (λ t.
-    let c : count_by P (take (suc n) l) ≡ count_by P (take n l) = ap (λ (k : ℕ). count_by P (take k l)) (sym (add-one n)) ∙ count_by_more_no P l n d (omega arith) t in
-    rw (c, e n (omega arith), t) (none_counted P d l Q n (omega arith) (λ k h. e k (omega arith))))
+-- ---- a test of each of some elements, in one go
+-- one element more
+pub passed_more : {A : Type 0} (P : A → Bool) (l : List A) (x : A) → list_all P (l ++ (x ∷ [])) ≡ (list_all P l && P x)
+passed_more P l x = list_all-append P l (x ∷ []) ∙ ap (λ (b : Bool). list_all P l && b) (and_true (P x))
+  where
+    and_true : (b : Bool) → (b && true) ≡ b
+    and_true true = refl
+    and_true false = refl
 
-pub not_not : (b : Bool) → not (not b) ≡ b
-not_not true = refl
-not_not false = refl
+-- the first n
+pub all_passed : {A : Type 0} (P : A → Bool) (d : A) (l : List A) (Q : ℕ → Bool) (n : ℕ) → n ≤ length l → ((k : ℕ) → k < n → Q k ≡ P (get_or l k d)) → list_all P (take n l) ≡ all_below Q n
+unfolding all_below
+all_passed P d l Q zero m e = refl
+all_passed P d l Q (suc n) m e =
+    ap (λ (k : ℕ). list_all P (take k l)) (sym (add-one n)) ∙ list_all_more P l n d (omega arith)
+    ∙ rw (all_passed P d l Q n (omega arith) (λ k h. e k (omega arith)), e n (omega arith)) (swap (all_below Q n) (P (get_or l n d)))
+  where
+    swap : (a b : Bool) → (a && b) ≡ (b && a)
+    swap true true = refl
+    swap true false = refl
+    swap false true = refl
+    swap false false = refl
 
 -- place k of the 64 from a on
 pub part_place : (ps : List Place) (a k : ℕ) → k < length (take (a + 64 - a) (drop a ps)) → (k < 64) × (get_or (take (a + 64 - a) (drop a ps)) k nowhere ≡ place_at ps (a + k))

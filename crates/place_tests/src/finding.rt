@@ -1,6 +1,5 @@
 // Two ways to find out whether a range has a place in its window, for the frames of a store, one after the other.
-ghost use Rattle.std.specs.Prelude.{◌≡◌, Bool, true, false, List, IfOk, IsOk};
-ghost use Rattle.std.specs.Option.{ForSome};
+ghost use Rattle.std.specs.Prelude.{◌≡◌, Bool, true, false, List, ◌<◌, length, IfOk, IsOk};
 ghost use Rattle.ranges.specs.Table.{named};
 ghost use Rattle.table.specs.declared.PageRange.{PageRange as Range};
 ghost use Rattle.table.specs.Table.{ranges_of};
@@ -30,12 +29,41 @@ pub trait Finder {
 #[derive(Clone, Copy)]
 pub struct Seeking<'a> {
     pub windows: Windows<'a>,
-    // the range whose window was found last
-    pub found: Option<usize>,
+    // the window that was found last, as an interval; one without a place at first
+    pub window: Interval,
     // the range that a search found last
     pub hint: Option<usize>,
     // how many steps searches have left
     pub steps: usize,
+    ghost inside: { Inside windows.ranges.now window },
+}
+
+impl Seeking<'_> {
+    // The window of the range in slot i is the one that was found last.
+    fn note(&mut self, i: usize)
+        requires { i < length self.old.windows.ranges.now }
+        ensures { self.new.windows.ranges.now ≡ self.old.windows.ranges.now }
+    {
+        if let Some(window) = Interval::of(self.windows.ranges[i]) {
+            self.window = window;
+        }
+    }
+
+    // Whether the place lies in a window, by a search. Not compiled into `finds`, which then has nothing to put aside for it.
+    #[tactic(auto, using(window_search::specs::Windows::met_named, window_search::specs::Windows::windowed))]
+    #[cold]
+    #[inline(never)]
+    fn seek(&mut self, place: Place) -> Result<bool, GaveUp>
+        ensures answer { IfOk result (λ q. q ≡ named place.backing place.index (ranges_of self.old.windows.ranges.now)) }
+        ensures ranges { self.new.windows.ranges.now ≡ self.old.windows.ranges.now }
+    {
+        let met = self.windows.search(self.hint, place, &mut self.steps)?;
+        if let Some(i) = met {
+            self.note(i);
+            self.hint = met;
+        }
+        Ok(met.is_some())
+    }
 }
 
 impl Finder for Seeking<'_> {
@@ -46,36 +74,28 @@ impl Finder for Seeking<'_> {
     // The window that was found last is looked at first, since frames of one backing often stand in one window; then that of the last range of the backing.
     #[tactic(auto, using(window_search::specs::Windows::met_named, window_search::specs::Windows::windowed))]
     fn finds(&mut self, place: Place) -> Result<bool, GaveUp> {
-        if let Some(i) = self.found
-            && self.windows.has(i, place)
-        {
+        if self.window.has(place) {
             return Ok(true);
         }
-        let last = self.windows.first(place.backing);
-        if let Some(j) = last
+        if let Some(j) = self.windows.first(place.backing)
             && self.windows.has(j, place)
         {
-            self.found = last;
+            self.note(j);
             return Ok(true);
         }
-        let met = self.windows.search(self.hint, place, &mut self.steps)?;
-        if met.is_some() {
-            self.found = met;
-            self.hint = met;
-        }
-        Ok(met.is_some())
+        self.seek(place)
     }
 }
 
-// The intervals that the windows of ranges cover, and the one that was found last.
+// The intervals that the windows of ranges cover, and the one that was found last; one without a place at first.
 #[derive(Clone, Copy)]
 pub struct Covering<'a> {
     pub ranges: &'a [PageRange],
     pub cover: &'a Cover,
-    pub last: Option<Interval>,
+    pub last: Interval,
     ghost indexed: { ∥ Indexed cover.now ∥₁ },
     ghost exact: { Exact ranges.now cover.now },
-    ghost inside: { ForSome last (Inside ranges.now) },
+    ghost inside: { Inside ranges.now last },
 }
 
 impl Finder for Covering<'_> {
@@ -85,14 +105,12 @@ impl Finder for Covering<'_> {
 
     // The interval that was found last is looked at first.
     fn finds(&mut self, place: Place) -> Result<bool, GaveUp> {
-        if let Some(interval) = self.last
-            && interval.has(place)
-        {
+        if self.last.has(place) {
             return Ok(true);
         }
         let found = self.cover.find(place);
-        if found.is_some() {
-            self.last = found;
+        if let Some(interval) = found {
+            self.last = interval;
         }
         Ok(found.is_some())
     }

@@ -6,6 +6,7 @@ ghost use Rattle.std.specs.Prelude.{◌≡◌, true, false, ℕ, ◌+◌, ◌*�
 ghost use Rattle.chains.specs.Chains.{Linked};
 ghost use Rattle.charts.specs.Charts.{chain_at, Empty, FrameChains, RangeChains};
 ghost use Rattle.lists.specs.Every.{all_below};
+ghost use Rattle.places.specs.Places.{place_at};
 ghost use Rattle.range_tests.specs.Chaining.{Charted};
 ghost use Rattle.store.specs.Abs.{used};
 ghost use Rattle.store.specs.Sound.{alone?, stands?};
@@ -23,17 +24,16 @@ use finding::{Covering, Finder, Seeking};
 use places::Place;
 use store::Store;
 use table::BackingPages;
-use window_cover::Cover;
+use window_cover::{Cover, Interval};
 use window_search::{GaveUpAt, Windows};
 
 // Whether no frame before frame f, which is in use, stands at its place: a walk along its chain.
-fn alone(s: &Store, chains: &Chains, f: usize) -> bool
+fn alone(s: &Store, chains: &Chains, f: usize, place: Place) -> bool
     requires in_table { f < 1024 }
-    requires used { Used s.now.places f }
+    requires stands { (place ≡ place_at s.now.places f) × Used s.now.places f }
     requires linked { Linked (chain_at s.now.places) (f + 1) chains.now.next }
     ensures { result ≡ alone? s.now.places f }
 {
-    let place = s.places[f];
     for earlier in chains.before(f) {
         if s.places[earlier].stands_at(place.backing, place.index) {
             return false;
@@ -44,20 +44,21 @@ fn alone(s: &Store, chains: &Chains, f: usize) -> bool
 
 // "Each frame is free or stands in exactly one backing at one index, no two at the same": of frame f, which is in use. It is put into its chain, before the frames that it is
 // compared with.
-fn linked(s: &Store, chains: &mut Chains, f: usize) -> bool
+fn linked(s: &Store, chains: &mut Chains, f: usize, place: Place) -> bool
     requires in_table { f < 1024 }
-    requires used { Used s.now.places f }
+    requires stands { (place ≡ place_at s.now.places f) × Used s.now.places f }
     requires charted { Charted (chain_at s.now.places) f chains.old }
     ensures answer { result ≡ alone? s.now.places f }
     ensures charted { Charted (chain_at s.now.places) (f + 1) chains.new }
 {
-    let place = s.places[f];
     chains.put(charts::chain_to(place.backing, place.index), f);
-    alone(s, chains, f)
+    alone(s, chains, f, place)
 }
 
 // "Each frame is free or stands in exactly one backing at one index, no two at the same", and "each vector entry lies in the window of some range that holds the vector": of the
-// frames from `first` up to `end`, those before having passed. Where the finder gives up, the frames before that frame pass, and are chained.
+// frames from `first` up to `end`, those before having passed. Where the finder gives up, the frames before that frame pass, and are chained. Compiled by itself, so that its
+// loop keeps what it needs in registers.
+#[inline(never)]
 fn seat_frames<F: Finder>(
     s: &Store,
     finder: &mut F,
@@ -80,7 +81,7 @@ fn seat_frames<F: Finder>(
         if !finder.finds(*place).map_err(|_| GaveUpAt { frame })? {
             return Ok(false);
         }
-        if !linked(s, chains, frame) {
+        if !linked(s, chains, frame, *place) {
             return Ok(false);
         }
     }
@@ -101,7 +102,7 @@ fn seat_words(s: &Store, ranges: &Chains, chains: &mut Chains) -> Result<bool, G
     };
     let mut seeking = Seeking {
         windows,
-        found: None,
+        window: Interval::default(),
         hint: None,
         steps: 640,
     };
@@ -117,6 +118,27 @@ fn seat_words(s: &Store, ranges: &Chains, chains: &mut Chains) -> Result<bool, G
     Ok(true)
 }
 
+// The same of the frames from `first` on, those before having passed, by the intervals that windows cover. Not compiled into `seat_all`, which then makes no room for intervals.
+#[cold]
+#[inline(never)]
+fn seat_rest(s: &Store, chains: &mut Chains, first: usize) -> bool
+    requires few { (s.now.frames ≤ 1024) × (s.now.count ≤ 512) }
+    requires in_store { first ≤ s.now.frames }
+    requires seated { Seated s.now first chains.old }
+    ensures answer { result ≡ all_below (placed_at? s.now) s.now.frames }
+    ensures chained { result ≡ true → FrameChains s.now.places s.now.frames chains.new }
+{
+    let ranges = &s.ranges[..s.count];
+    let mut cover = Cover::empty();
+    cover.fill(ranges);
+    let mut covering = Covering {
+        ranges,
+        cover: &cover,
+        last: Interval::default(),
+    };
+    seat_frames(s, &mut covering, chains, first, s.frames).is_ok_and(|passed| passed)
+}
+
 // The same of all frames, which are chained by their places. Where searches have no step left, windows are found by intervals from that frame on.
 pub fn seat_all(s: &Store, ranges: &Chains, chains: &mut Chains) -> bool
     requires few { (s.now.frames ≤ 1024) × (s.now.count ≤ 512) }
@@ -128,16 +150,7 @@ pub fn seat_all(s: &Store, ranges: &Chains, chains: &mut Chains) -> bool
 {
     match seat_words(s, ranges, chains) {
         Ok(passed) => passed,
-        Err(GaveUpAt { frame }) => {
-            let ranges = &s.ranges[..s.count];
-            let cover = Cover::new(ranges);
-            let mut covering = Covering {
-                ranges,
-                cover: &cover,
-                last: None,
-            };
-            seat_frames(s, &mut covering, chains, frame, s.frames).is_ok_and(|passed| passed)
-        }
+        Err(GaveUpAt { frame }) => seat_rest(s, chains, frame),
     }
 }
 
@@ -219,12 +232,14 @@ fn word_bits(s: &Store, i: usize) -> bool
     let first = i * 64;
     let places = &s.places[first..first + 64];
     if first + 64 <= s.frames {
-        // by hand: `all` stops at the first place that fails, and so takes 900 ns more for 1,024 frames (tried)
+        // by hand: `all` stops at the first place that fails, and so goes one at a time; `fold` goes several at a time
         if word == 0 {
-            return places.iter().filter(|p| p.is_free()).count() == 0;
+            return places.iter().fold(true, |all, p| all & !p.is_free());
         }
         if word == u64::MAX {
-            return places.iter().filter(|p| **p != Place::NOWHERE).count() == 0;
+            return places
+                .iter()
+                .fold(true, |all, p| all & (*p == Place::NOWHERE));
         }
     }
     for (k, p) in places.iter().enumerate() {

@@ -74,7 +74,7 @@ mapped_all g ps f h = ap₂ (λ a b. map g a ++ b) (take_all f ps h) (drop_of_le
 
 -- the places from f on are done by another function that does the same
 module _ (g k : Place → Place) (same : (p : Place) → k p ≡ g p) where
-  map_same : (l : List Place) → map k l ≡ map g l
+  pub map_same : (l : List Place) → map k l ≡ map g l
   map_same [] = refl
   map_same (p ∷ l) = ap₂ (λ q r. q ∷ r) (same p) (map_same l)
 

@@ -62,6 +62,18 @@ fn trim_covered(places: &mut [Place], cover: &Cover)
     }
 }
 
+// The places trimmed by the windows of the ranges, which are found by intervals. Not compiled into `trim_places`, which then makes no room for intervals.
+#[cold]
+#[inline(never)]
+fn trim_rest(places: &mut [Place], ranges: &[PageRange])
+    requires { length ranges.now ≤ 512 }
+    ensures { places.new ≡ map (kept ranges.now) places.old }
+{
+    let mut cover = Cover::empty();
+    cover.fill(ranges);
+    trim_covered(places, &cover);
+}
+
 // The places of the first `frames` frames trimmed by the windows of the ranges. By hand: the whole array comes in. Tried: the borrow check covers no part of
 // a store's field lent beside another field, and through a slice of the whole field the proof of `trim` did not close.
 fn trim_places(places: &mut [Place; 1024], frames: usize, ranges: &[PageRange])
@@ -75,8 +87,7 @@ fn trim_places(places: &mut [Place; 1024], frames: usize, ranges: &[PageRange])
     };
     let places = &mut places[..frames];
     if let Err(GaveUpAt { frame }) = trim_along(places, &windows) {
-        let cover = Cover::new(ranges);
-        trim_covered(&mut places[frame..], &cover);
+        trim_rest(&mut places[frame..], ranges);
     }
 }
 

@@ -18,10 +18,10 @@ use Rattle.lists.specs.Every.{all_below, at_below, below_fails, none_both}
 use Rattle.ranges.specs.Table.{named}
 use Rattle.table.specs.Table.{number_of, ranges_of, zero_range}
 use Rattle.chains.specs.Chains.{Chained, chained_alike, chained_next, in_chain, last_below}
-use Rattle.chains.specs.Entries.{entries, entries_first, entries_none, entries_over}
+use Rattle.chains.specs.Entries.{below_same, entries, entries_first, entries_none, entries_over, link_below}
 use Rattle.chains.specs.Walk.{Along, along_at, along_less, along_next, onward}
 use Rattle.window_search.specs.Windows.{chains_none, in_window, outside, windows_all}
-use Rattle.charts.specs.Charts.{chain_by}
+use Rattle.charts.specs.Charts.{chain_by, Empty}
 
 -- the place lies in the interval
 abbrev pub within : Interval → Place → Bool
@@ -55,6 +55,10 @@ size_at v j = get_or v.sizes.items j 0
 -- the place lies in one of the intervals
 abbrev pub covered : Cover → Place → Bool
 covered v p = not (all_below (λ c. not (within (interval_at v c) p)) (count v))
+
+-- there is no interval
+abbrev pub Bare : Cover → Type 0
+Bare v = (count v ≡ 0) × (size_count v ≡ 0) × Empty v.chains
 
 -- the intervals are in chains, by blocks of sizes up to 2^33
 pub record Filed (chain : ℕ → ℕ) (v : Cover) : Type 0 where
@@ -190,18 +194,18 @@ module _ (T : Interval → Bool → Type 0) (v : Cover) (h : ℕ) where
     pub sought_less : (chain : ℕ → ℕ) → Filed chain v → get_or v.chains.next i 0 ≤ i
     sought_less chain F = let q : i + 1 - 1 ≡ i = omega arith in let l = rw q at (along_less chain h v.chains.next (count v) (i + 1) (S.along chain F) (omega arith)) in omega arith
 
-    pub sought_next : (i < count v → T (interval_at v i) false) → Sought T v h (min (get_or v.chains.next i 0) i)
+    pub sought_next : (i < count v → T (interval_at v i) false) → Sought T v h (link_below (get_or v.chains.next i 0) i)
     sought_next t = record {
       along = λ d G.
           let q : i + 1 - 1 ≡ i = omega arith in
-          let m : min (get_or v.chains.next i 0) i ≡ get_or v.chains.next i 0 = omega (arith, sought_less d G) in
+          let m = below_same (get_or v.chains.next i 0) i (sought_less d G) in
           rw m (rw q at (along_next d h v.chains.next (count v) (i + 1) (S.along d G) (omega arith)));
       over = λ d G c l u e.
           by-lt c i
           (λ k.
           let q : i + 1 - 1 ≡ i = omega arith in
           let o = rw q at (onward d h v.chains.next (count v) (i + 1) (S.along d G) (omega arith)) in
-          absurd (false≢true (sym (last_over (in_chain d h) i c (omega (arith, o, l, sought_less d G)) k) ∙ eq-eqb (d c) h e)))
+          absurd (false≢true (sym (last_over (in_chain d h) i c (omega (arith, o, l, below_same (get_or v.chains.next i 0) i (sought_less d G))) k) ∙ eq-eqb (d c) h e)))
           (λ k. by-eq c i (λ q. rw q (t (omega arith))) (λ q. S.over d G c (omega arith) u e));
     }
 
@@ -218,14 +222,14 @@ module _ (T : Interval → Bool → Type 0) (v : Cover) (h : ℕ) where
   ahead_start rest b e = record { link = get_or v.chains.heads h 0; sought = sought_start b; is = e }
 
   module _ (i : ℕ) (rest : List ℕ) (A : Ahead T v h (i ∷ rest)) where
-    first : (A.link ≡ i + 1) × (rest ≡ entries v.chains.next (min (get_or v.chains.next i 0) i))
+    first : (A.link ≡ i + 1) × (rest ≡ entries v.chains.next (link_below (get_or v.chains.next i 0) i))
     first =
         by-lt 1024 A.link
         (λ h. let e : i ∷ rest ≡ [] = A.is ∙ entries_none v.chains.next A.link h in absurd (let z : ◌≡◌ {A = ℕ} 0 1 = cc in omega arith))
         (λ h. entries_first v.chains.next i rest A.link A.is h)
 
     pub ahead_next : (i < count v → T (interval_at v i) false) → Ahead T v h rest
-    ahead_next t = record { link = min (get_or v.chains.next i 0) i; sought = sought_next i (rw first.0 at A.sought) t; is = first.1 }
+    ahead_next t = record { link = link_below (get_or v.chains.next i 0) i; sought = sought_next i (rw first.0 at A.sought) t; is = first.1 }
 
     pub ahead_low : (chain : ℕ → ℕ) → Filed chain v → i < count v
     ahead_low chain F = omega (arith, (A.sought.along chain F).low, first.0)

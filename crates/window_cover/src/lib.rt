@@ -6,7 +6,7 @@ ghost use Rattle.std.specs.Prelude.{◌≡◌, ℕ, false, true, ◌+◌, ◌-�
 ghost use Rattle.table.specs.Table.{number_of, ranges_of};
 ghost use Rattle.ranges.specs.Table.{named};
 ghost use Rattle.places.specs.declared.Place.{Place};
-ghost use Rattle.window_cover.specs.Intervals.{within, meets, united, key_of, count, covered, First, Filed, Put, Marked, Entered, Indexed, Shown};
+ghost use Rattle.window_cover.specs.Intervals.{within, meets, united, key_of, count, covered, Bare, First, Filed, Put, Marked, Entered, Indexed, Shown};
 
 use arrayvec::ArrayVec;
 use chains::Chains;
@@ -23,7 +23,7 @@ pub struct Interval {
 
 impl Interval {
     // The window of a range, if it has any index.
-    fn of(r: PageRange) -> Option<Interval>
+    pub fn of(r: PageRange) -> Option<Interval>
         ensures { MatchOption result (r.length ≡ 0) (λ a. (a.first < a.end) × (a.end < 8589934592) × (a ≡ record { backing = number_of r.backing; first = r.offset; end = r.offset + r.length })) }
     {
         let interval = Interval {
@@ -144,22 +144,39 @@ impl Cover {
         }
     }
 
+    // A cover without an interval.
+    pub fn empty() -> Cover
+        ensures { Bare result }
+    {
+        Cover {
+            intervals: ArrayVec::new(),
+            chains: Chains::new(),
+            sizes: ArrayVec::new(),
+        }
+    }
+
+    // The intervals of the windows of ranges, entered where there was none: a cover is filled where it lies, since it has 21,008 bytes.
+    pub fn fill(&mut self, ranges: &[PageRange])
+        requires bare { Bare self.old }
+        requires few { length ranges.now ≤ 512 }
+        ensures exact { (p : Place) → covered self.new p ≡ named p.backing p.index (ranges_of ranges.now) }
+        ensures indexed { Indexed self.new }
+    {
+        for r in ranges {
+            if let Some(interval) = Interval::of(*r) {
+                self.enter(interval);
+            }
+        }
+    }
+
     // The intervals of the windows of ranges.
     pub fn new(ranges: &[PageRange]) -> Cover
         requires { length ranges.now ≤ 512 }
         ensures exact { (p : Place) → covered result p ≡ named p.backing p.index (ranges_of ranges.now) }
         ensures indexed { Indexed result }
     {
-        let mut cover = Cover {
-            intervals: ArrayVec::new(),
-            chains: Chains::new(),
-            sizes: ArrayVec::new(),
-        };
-        for r in ranges {
-            if let Some(interval) = Interval::of(*r) {
-                cover.enter(interval);
-            }
-        }
+        let mut cover = Cover::empty();
+        cover.fill(ranges);
         cover
     }
 

@@ -10,7 +10,7 @@ loop-earlier-init c =
       can_next = tt;
       is_finite = tt;
       left = rw c.into_iter-earlier-iterator.ensures.into_iter_gives
-          (left_all c.args.chains.now.next (apart_from c.args.s.now.places c.args.f) c.args.f _ c.before-earlier-items.result (omega (arith, c.requires.in_table)) (walk_alone c.args.s.now.places c.args.f c.requires.used c.args.chains.now.next c.requires.linked) c.before-earlier-items.ensures);
+          (left_all c.args.chains.now.next (apart_from c.args.s.now.places c.args.f) c.args.f _ c.before-earlier-items.result (omega (arith, c.requires.in_table)) (walk_alone c.args.s.now.places c.args.f c.requires.stands.1 c.args.chains.now.next c.requires.linked) c.before-earlier-items.ensures);
     }
 
 pub bounds-s-earlier : goal.bounds-s-earlier
@@ -29,7 +29,7 @@ pub returns-then-stands_at : goal.returns-then-stands_at
 unfolding alone?
 returns-then-stands_at c =
     left_hit c.args.chains.now.next (apart_from c.args.s.now.places c.args.f) c.args.f c.in-Some.earlier _ (rw c.in-Some.ensures.steps at c.loop-earlier.invariant.left)
-    (apart_stands c.args.s.now.places c.args.f c.requires.used c.in-Some.earlier ∙ ap not (sym c.stands_at.ensures ∙ c.if-stands_at.true))
+    (apart_stands c.args.s.now.places c.args.f c.requires.stands.1 c.in-Some.earlier ∙ rw (← c.requires.stands.0) (ap not (sym c.stands_at.ensures ∙ c.if-stands_at.true)))
 
 pub loop-earlier-preserved : goal.loop-earlier-preserved
 loop-earlier-preserved c =
@@ -37,7 +37,7 @@ loop-earlier-preserved c =
       can_next = tt;
       is_finite = tt;
       left = left_next c.args.chains.now.next (apart_from c.args.s.now.places c.args.f) c.args.f c.in-Some.earlier _ (rw c.in-Some.ensures.steps at c.loop-earlier.invariant.left)
-          (apart_stands c.args.s.now.places c.args.f c.requires.used c.in-Some.earlier ∙ ap not (sym c.stands_at.ensures ∙ c.if-stands_at.false));
+          (apart_stands c.args.s.now.places c.args.f c.requires.stands.1 c.in-Some.earlier ∙ rw (← c.requires.stands.0) (ap not (sym c.stands_at.ensures ∙ c.if-stands_at.false)));
     }
 
 pub returns : goal.returns

@@ -1,11 +1,10 @@
-use Rattle.std.proofs.Common.{rules, tests, ◌≡◌, ◌≤◌, ◌*◌, ◌+◌, ◌-◌, not, drop, get_or, get_or-drop, length, length-drop, take, sym, ◌∙◌, ap, arith}
-use Rattle.std.specs.Slice.Iter.{iter_rest}
-use Rattle.std.proofs.lemmas.Iterator.{YieldsList-from_slice}
-use Rattle.std.proofs.lemmas.Iterator.Consumers.{YieldsList-from_filter, count_from_yields_List}
-use Rattle.std.proofs.lemmas.List.Sums.{length-filter}
+use Rattle.std.proofs.Common.{rules, refl, Bool, List, ◌≡◌, ◌≤◌, ◌*◌, ◌+◌, ◌-◌, not, drop, get_or, get_or-drop, length, length-drop, subst, take, sym, arith}
+use Rattle.std.specs.List.{list_all}
+use Rattle.std.proofs.lemmas.Fn.{fold_over, fronts, slice_gives}
+use Rattle.places.specs.declared.Place.{Place}
 use Rattle.places.specs.Places.{is_vacant, nowhere, place_at}
 use Rattle.lists.specs.Every.{below_fails, below_next}
-use Rattle.place_tests.specs.Bits.{none_counted, not_not, part_place, word_kept?, word_used, word_free, zero_place?}
+use Rattle.place_tests.specs.Bits.{all_passed, passed_more, part_place, word_kept?, word_used, word_free, zero_place?}
 use Rattle.place_tests.proofs.word_bits.Goals as goal
 
 pub returns-then-word-eq0 : goal.returns-then-word-eq0
@@ -16,9 +15,12 @@ returns-then-word-eq0 c =
     let m : length s.places ≡ 1024 = search rules in
     let n : a + 64 - a ≡ 64 = omega arith in
     let h : a + 64 ≤ s.frames = c.if-first-s.true in
-    let y = count_from_yields_List _ _ c.count.ensures.ran (YieldsList-from_filter _ is_vacant (YieldsList-from_slice (take (a + 64 - a) l) (ap iter_rest c.filter.ensures.source ∙ c.iter.ensures.rest)) c.filter.ensures.closure (λ x b q k. search (rules, tests))) in
-    rw (y, n, length-filter, c.if-word-eq0.true)
-    (none_counted is_vacant nowhere l (word_kept? s.frames s.places 0 a) 64 (simp length-drop (omega (arith, c.requires)))
+    let P : Place → Bool = λ p. not (is_vacant p) in
+    let y : c.fold.result ≡ list_all P (take (a + 64 - a) l) = subst (λ (ys : List Place). c.fold.result ≡ list_all P ys) c.iter.ensures.rest
+    (fold_over fronts (λ y. y.now) _ (λ ys b. b ≡ list_all P ys) _ (λ ys a x b f' j k. let more = passed_more P ys x.now in search rules)
+    _ _ _ _ (slice_gives c.iter.result) refl c.fold.ensures.ran) in
+    rw (y, n, c.if-word-eq0.true)
+    (all_passed P nowhere l (word_kept? s.frames s.places 0 a) 64 (simp length-drop (omega (arith, c.requires)))
     (λ k u. rw (get_or-drop a s.places k nowhere) (word_used s.frames s.places a k (omega (arith, h, u)))))
 
 pub returns-then-word : goal.returns-then-word
@@ -29,10 +31,12 @@ returns-then-word c =
     let m : length s.places ≡ 1024 = search rules in
     let n : a + 64 - a ≡ 64 = omega arith in
     let h : a + 64 ≤ s.frames = c.if-first-s.true in
-    let y = count_from_yields_List _ _ c.count-then-word.ensures.ran (YieldsList-from_filter _ (λ p. not (zero_place? p)) (YieldsList-from_slice (take (a + 64 - a) l) (ap iter_rest c.filter-then-word.ensures.source ∙ c.iter-then-word.ensures.rest)) c.filter-then-word.ensures.closure (λ x b q k. search (rules, tests))) in
-    rw (y, n, length-filter, c.if-word.true)
-    (none_counted (λ p. not (zero_place? p)) nowhere l (word_kept? s.frames s.places 18446744073709551615 a) 64 (simp length-drop (omega (arith, c.requires)))
-    (λ k u. rw (get_or-drop a s.places k nowhere, not_not (zero_place? (place_at s.places (a + k)))) (word_free s.frames s.places a k u (omega (arith, h, u)))))
+    let y : c.fold-then-word.result ≡ list_all zero_place? (take (a + 64 - a) l) = subst (λ (ys : List Place). c.fold-then-word.result ≡ list_all zero_place? ys) c.iter-then-word.ensures.rest
+    (fold_over fronts (λ y. y.now) _ (λ ys b. b ≡ list_all zero_place? ys) _ (λ ys a x b f' j k. let more = passed_more zero_place? ys x.now in search rules)
+    _ _ _ _ (slice_gives c.iter-then-word.result) refl c.fold-then-word.ensures.ran) in
+    rw (y, n, c.if-word.true)
+    (all_passed zero_place? nowhere l (word_kept? s.frames s.places 18446744073709551615 a) 64 (simp length-drop (omega (arith, c.requires)))
+    (λ k u. rw (get_or-drop a s.places k nowhere) (word_free s.frames s.places a k u (omega (arith, h, u)))))
 
 pub returns-then-not-bit : goal.returns-then-not-bit
 returns-then-not-bit c =

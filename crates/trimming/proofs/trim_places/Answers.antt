@@ -1,8 +1,6 @@
-use Rattle.std.proofs.Common.{List, ap, take, drop, ◌++◌}
+use Rattle.std.proofs.Common.{List, ap, refl, take, drop, ◌++◌}
 use Rattle.places.specs.declared.Place.{Place}
-use Rattle.lists.specs.Test.{pick}
-use Rattle.places.specs.Places.{nowhere}
-use Rattle.trimming.specs.Trimming.{kept, kept_covered, mapped_rest_too}
+use Rattle.trimming.specs.Trimming.{kept, mapped_rest_too}
 use Rattle.trimming.proofs.trim_places.Goals as goal
 
 pub returns-in-Err : goal.returns-in-Err
@@ -11,5 +9,5 @@ returns-in-Err c =
     let H = c.in-Err.ensures in
     let P = a.places.now in
     ap (λ (l : List Place). l ++ drop a.frames P)
-    (mapped_rest_too (kept a.ranges.now) (kept_covered c.new-cover.result) (λ p. ap (λ t. pick t p nowhere) (c.new-cover.ensures.exact p))
-    (take a.frames P) c.trim_along.new.places c.trim_covered.new.places c.in-Err.field-0.frame H.0 H.1 c.trim_covered.ensures)
+    (mapped_rest_too (kept a.ranges.now) (kept a.ranges.now) (λ p. refl)
+    (take a.frames P) c.trim_along.new.places c.trim_rest.new.places c.in-Err.field-0.frame H.0 H.1 c.trim_rest.ensures)
