@@ -1,11 +1,10 @@
 -- The entries of a chain, from a link on, whatever the links are; and a test of every entry below m by those of one chain.
-use Rattle.std.specs.Prelude.{◌≡◌, refl, Bool, true, false, List, [], ◌∷◌, Option, Some, None, eqb, leb, ltb, get_or}
-use Rattle.std.proofs.Common.{sym, ap, ◌∙◌, le_refl, add-one, eq-eqb, le-leb, le-ltb, leb-false, leb-true, lt-ltb, ne_eqb}
-use Rattle.std.proofs.lemmas.Bool.{lt-leb}
-use Prim.Native.Nat.{ℕ, zero, suc, ◌+◌, ◌-◌, ◌%◌, ◌≤◌, ◌<◌}
+use Rattle.std.specs.Prelude.{◌≡◌, refl, Bool, true, false, List, [], ◌∷◌, Option, Some, None, eqb, get_or}
+use Rattle.std.proofs.Common.{sym, ap, ◌∙◌, le_refl, add-one, eq-eqb, ne_eqb}
+use Prim.Native.Nat.{ℕ, zero, suc, ◌+◌, ◌-◌, ◌≤◌, ◌<◌, min}
 use native.Mathlib.Omega.{arith}
 use Rattle.std.specs.List.{list_all}
-use Rattle.lists.specs.Test.{pick, by-eq, by-lt, by-test}
+use Rattle.lists.specs.Test.{pick, by-eq, by-test}
 use Rattle.lists.specs.Every.{all_below}
 use Rattle.chains.specs.Walk.{Walk, walk_end, walk_hit, walk_less, walk_next}
 
@@ -14,42 +13,19 @@ abbrev pub link_of : Option ℕ → ℕ
 link_of None = 0
 link_of (Some i) = i + 1
 
--- the link to an entry to come, if there is one
-abbrev pub link_to : Bool → ℕ → ℕ
-link_to true i = i + 1
-link_to false i = 0
-
--- the entries below n of the chain from link k on; a link that leads no lower than its own entry leads to none
+-- the entries below n of the chain from link k on; a link that leads no lower than its own entry counts as one to the next lower entry
 unfoldable pub entries_below : List ℕ → ℕ → ℕ → List ℕ
 entries_below ns zero k = []
-entries_below ns (suc n) k = pick (eqb k (suc n)) (n ∷ entries_below ns n (get_or ns n 0)) (entries_below ns n k)
+entries_below ns (suc n) k = pick (eqb k (suc n)) (n ∷ entries_below ns n (min (get_or ns n 0) n)) (entries_below ns n k)
 
 -- of 1,024 entries
 abbrev pub entries : List ℕ → ℕ → List ℕ
 entries ns k = entries_below ns 1024 k
 
--- a link to an entry below n, or that at the end of a chain
-abbrev pub link_below : ℕ → ℕ → ℕ
-link_below k n = pick (leb k n) k 0
-
-module _ (k n : ℕ) where
-  pub below_low : link_below k n ≤ n
-  below_low = by-test (leb k n) (λ t. rw t (leb-true k n t)) (λ t. rw t (omega arith))
-
-  pub below_same : k ≤ n → link_below k n ≡ k
-  below_same h = rw (le-leb k n h)
-
-  below_over : n < k → link_below k n ≡ 0
-  below_over h = rw (lt-leb k n h)
-
-  -- what one test of the entry says, to which link 0 leads by wrapping
-  pub below_told : (e : ℕ) → e ≡ (k + 18446744073709551615) % 18446744073709551616 → k < 65536 → n ≤ 1024 → link_to (ltb e n) e ≡ link_below k n
-  below_told e q f m =
-      by-lt e n
-      (λ l. let z : e + 1 ≡ k = omega arith in rw (lt-ltb e n l) (z ∙ sym (below_same (omega arith))))
-      (λ l.
-      rw (le-ltb e n l)
-      (by-eq k 0 (λ z. sym z ∙ sym (below_same (omega arith))) (λ z. sym (below_over (omega arith)))))
+-- those that are left at link k, whose entry is passed or not
+abbrev pub left : List ℕ → ℕ → Bool → List ℕ
+left ns k false = entries ns k
+left ns k true = entries ns (min (get_or ns (k - 1) 0) (k - 1))
 
 module _ (ns : List ℕ) where
   low_below : (m n k : ℕ) → m ≤ n → k ≤ m → entries_below ns n k ≡ entries_below ns m k
@@ -74,35 +50,30 @@ module _ (ns : List ℕ) where
   pub entries_none : (k : ℕ) → 1024 < k → entries ns k ≡ []
   entries_none k h = none_below 1024 k h
 
-  pub entries_below_link : (n k : ℕ) → n ≤ 1024 → entries_below ns n k ≡ entries ns (link_below k n)
-  entries_below_link n k l =
-      by-test (leb k n)
-      (λ t. rw t (sym (low_below n 1024 k l (leb-true k n t))))
-      (λ t. rw t (none_below n k (let g = leb-false k n t in omega arith) ∙ sym (zero_below 1024)))
-
   -- at an entry
-  here_below : (i : ℕ) → entries_below ns (suc i) (suc i) ≡ i ∷ entries_below ns i (get_or ns i 0)
+  here_below : (i : ℕ) → entries_below ns (suc i) (suc i) ≡ i ∷ entries_below ns i (min (get_or ns i 0) i)
   unfolding entries_below
   here_below i = rw (eq-eqb (suc i) (suc i) refl)
 
-  pub entries_step : (i : ℕ) → i < 1024 → entries ns (i + 1) ≡ i ∷ entries ns (link_below (get_or ns i 0) i)
+  pub entries_step : (i : ℕ) → i < 1024 → entries ns (i + 1) ≡ i ∷ entries ns (min (get_or ns i 0) i)
   entries_step i h =
-      rw (add-one, low_below (suc i) 1024 (suc i) (omega arith) (le_refl (suc i))) (here_below i)
-      ∙ ap (λ (l : List ℕ). i ∷ l) (entries_below_link i (get_or ns i 0) (omega arith))
+      let k : ℕ = min (get_or ns i 0) i in
+      let l : k ≤ i = omega arith in
+      rw (add-one, low_below (suc i) 1024 (suc i) (omega arith) (le_refl (suc i)), low_below i 1024 k (omega arith) l) (here_below i)
 
   -- a list of entries that begins with one
-  pub entries_first : (i : ℕ) (rest : List ℕ) (k : ℕ) → i ∷ rest ≡ entries ns k → k ≤ 1024 → (k ≡ i + 1) × (rest ≡ entries ns (link_below (get_or ns i 0) i))
+  pub entries_first : (i : ℕ) (rest : List ℕ) (k : ℕ) → i ∷ rest ≡ entries ns k → k ≤ 1024 → (k ≡ i + 1) × (rest ≡ entries ns (min (get_or ns i 0) i))
   entries_first i rest zero e l = let p = entries_end 0 refl in absurd (let z : ◌≡◌ {A = ℕ} 0 1 = cc in omega arith)
   entries_first i rest (suc k) e l =
-      let q : entries ns (suc k) ≡ k ∷ entries ns (link_below (get_or ns k 0) k) = rw add-one at (entries_step k (omega arith)) in
+      let q : entries ns (suc k) ≡ k ∷ entries ns (min (get_or ns k 0) k) = rw add-one at (entries_step k (omega arith)) in
       let p : i ≡ k = cc in
-      let r : rest ≡ entries ns (link_below (get_or ns k 0) k) = cc in
+      let r : rest ≡ entries ns (min (get_or ns k 0) k) = cc in
       (omega arith, rw p r)
 
   pub entries_over : (k : ℕ) → [] ≡ entries ns k → k ≤ 1024 → k ≡ 0
   entries_over zero e l = refl
   entries_over (suc k) e l =
-      let q : entries ns (suc k) ≡ k ∷ entries ns (link_below (get_or ns k 0) k) = rw add-one at (entries_step k (omega arith)) in
+      let q : entries ns (suc k) ≡ k ∷ entries ns (min (get_or ns k 0) k) = rw add-one at (entries_step k (omega arith)) in
       absurd (let z : ◌≡◌ {A = ℕ} 0 1 = cc in omega arith)
 
 -- ---- what one chain says of all entries below m
@@ -115,7 +86,8 @@ module _ (ns : List ℕ) (Q : ℕ → Bool) (m : ℕ) where
       let p : k - 1 ≡ n = omega arith in
       let o : 0 < k = omega arith in
       let l : get_or ns n 0 < k = rw p at (walk_less ns Q m k W o) in
-      rw (eq-eqb k (suc n) e)
+      let q : min (get_or ns n 0) n ≡ get_or ns n 0 = omega arith in
+      rw (eq-eqb k (suc n) e, q)
       (by-test (Q n)
       (λ t. rw t (f (omega arith) (rw p at (walk_next ns Q m k W o (rw p t)))))
       (λ t. rw t (sym (walk_hit ns Q m k W o (rw p t)))))
@@ -145,7 +117,7 @@ module _ (ns : List ℕ) (Q : ℕ → Bool) (m : ℕ) where
 
   -- at an entry
   module _ (i : ℕ) (rest : List ℕ) (L : Left ns Q m (i ∷ rest)) where
-    here : (L.link ≡ i + 1) × (rest ≡ entries ns (link_below (get_or ns i 0) i))
+    here : (L.link ≡ i + 1) × (rest ≡ entries ns (min (get_or ns i 0) i))
     here = entries_first ns i rest L.link L.is (let l = L.walk.low in let f = L.few in omega arith)
 
     pub left_low : i < m
@@ -156,7 +128,7 @@ module _ (ns : List ℕ) (Q : ℕ → Bool) (m : ℕ) where
         let e : L.link - 1 ≡ i = let h = here.0 in omega arith in
         let o : 0 < L.link = let h = here.0 in omega arith in
         let l : get_or ns i 0 < L.link = rw e at (walk_less ns Q m L.link L.walk o) in
-        let n = below_same (get_or ns i 0) i (let h = here.0 in omega arith) in
+        let n : min (get_or ns i 0) i ≡ get_or ns i 0 = let h = here.0 in omega arith in
         record {
           link = get_or ns i 0;
           walk = rw e at (walk_next ns Q m L.link L.walk o (rw e q));

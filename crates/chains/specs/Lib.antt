@@ -1,3 +1,4 @@
 pub mod Chains
 pub mod Entries
+pub mod Falling
 pub mod Walk

@@ -21,7 +21,8 @@ use Rattle.places.specs.Found.{frame_found}
 use Rattle.look.specs.Look.{index_in, in_frame, in_found, located, shared_in}
 use Rattle.chains.specs.Chains.{in_chain, last_same}
 use Rattle.chains.specs.Walk.{Along, along_at, along_less, along_next, along_same}
-use Rattle.chains.specs.Entries.{below_same, entries, entries_first, entries_over, link_below}
+use Rattle.chains.specs.Entries.{entries, entries_first, entries_over}
+use Rattle.chains.specs.Falling.{falling, falling_along}
 use Rattle.charts.specs.Charts.{RangeChains, backing_at, chain_by}
 
 -- the walk along the chain of backing b, of the first n of the ranges, is at link k, with a holder met or none yet
@@ -124,18 +125,21 @@ module _ (rs : List PageRange) (n : ℕ) (c : Chains) (b : ℕ) where
   pub left_none : RangeChains rs n c → n ≤ 1024 → (s : List ℕ) → s ≡ entries c.next (get_or c.heads (b % 1024) 0) → MeetsLeft rs n c b false s
   left_none C l s e = record { link = get_or c.heads (b % 1024) 0; meets = meets_none rs n c b C; few = l; is = e }
 
+  pub left_falling : RangeChains rs n c → n ≤ 1024 → (s : List ℕ) → s ≡ falling c.next (get_or c.heads (b % 1024) 0) → MeetsLeft rs n c b false s
+  left_falling C l s e = left_none C l s (e ∙ falling_along (chain_by rs) (b % 1024) c.next n (get_or c.heads (b % 1024) 0) (meets_none rs n c b C).along)
+
   module _ (m : Bool) (i : ℕ) (rest : List ℕ) (M : MeetsLeft rs n c b m (i ∷ rest)) where
-    first : (M.link ≡ i + 1) × (rest ≡ entries c.next (link_below (get_or c.next i 0) i))
+    first : (M.link ≡ i + 1) × (rest ≡ entries c.next (min (get_or c.next i 0) i))
     first = entries_first c.next i rest M.link M.is (let l = M.meets.along.low in let f = M.few in omega arith)
 
     past : (k : ℕ) → k ≡ i + 1 → k - 1 ≡ i
     past k e = omega arith
 
-    lower : link_below (get_or c.next i 0) i ≡ get_or c.next i 0
+    lower : min (get_or c.next i 0) i ≡ get_or c.next i 0
     lower =
         let h = first.0 in
         let l : get_or c.next i 0 < M.link = rw (past M.link h) at (meets_less rs n c b m M.link M.meets (omega arith)) in
-        below_same (get_or c.next i 0) i (omega arith)
+        omega arith
 
     pub left_low : i < n
     left_low = let l = M.meets.along.low in let h = first.0 in omega arith

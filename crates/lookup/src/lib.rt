@@ -31,7 +31,7 @@ pub fn frame_of(s: &Store, charts: &Charts, backing: u32, index: u32) -> Option<
     requires { (FrameChains s.now.places s.now.frames charts.now.frames) × (s.now.frames ≤ 1024) × Lone s.now }
     ensures { result ≡ frame_at backing index 0 (take s.now.frames s.now.places) }
 {
-    for frame in charts.frames.chain(chain_to(backing, index)) {
+    for frame in charts.frames.falling(chain_to(backing, index)) {
         if s.places[frame].stands_at(backing, index) {
             return Some(frame);
         }
@@ -169,7 +169,7 @@ fn sharing(store: &Store, charts: &Charts, backing: u32) -> State
     ensures { result ≡ shared_in store.now backing }
 {
     let mut met = false;
-    for slot in charts.ranges.chain(chain_by(backing)) {
+    for slot in charts.ranges.falling(chain_by(backing)) {
         if store.ranges[slot].backing.number() == backing {
             if met {
                 return State::Shared;

@@ -45,7 +45,7 @@ fn frame_by(s: &Store, charts: &Charts, backing: u32, index: u32) -> Option<usiz
     let places = s.frame_places();
     charts
         .frames
-        .chain(chain_to(backing, index))
+        .falling(chain_to(backing, index))
         .take(8)
         .find(|frame| *frame < places.len() && places[*frame].stands_at(backing, index))
         .or_else(|| page_steps::frame_at(s, backing, index))

@@ -34,7 +34,7 @@ fn alone(s: &Store, chains: &Chains, f: usize, place: Place) -> bool
     requires linked { Linked (chain_at s.now.places) (f + 1) chains.now.next }
     ensures { result ≡ alone? s.now.places f }
 {
-    for earlier in chains.before(f) {
+    for earlier in chains.falling_before(f) {
         if s.places[earlier].stands_at(place.backing, place.index) {
             return false;
         }
@@ -169,7 +169,7 @@ impl Frames<'_> {
         requires numbered { 0 < backing }
         ensures { result ≡ stands? self.now.s.now.places self.now.s.now.frames backing 0 }
     {
-        for frame in self.chains.chain(charts::chain_to(backing, 0)) {
+        for frame in self.chains.falling(charts::chain_to(backing, 0)) {
             if self.s.places[frame].stands_at(backing, 0) {
                 return true;
             }

@@ -110,7 +110,7 @@ fn agrees(s: &Store, chains: &Chains, i: usize) -> bool
     ensures { result ≡ all_below (alike_to s.now.ranges i) i }
 {
     let backing = s.ranges[i].backing;
-    for j in chains.before(i) {
+    for j in chains.falling_before(i) {
         let met = s.ranges[j].backing;
         if met == backing {
             return true;

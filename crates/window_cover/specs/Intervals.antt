@@ -18,7 +18,8 @@ use Rattle.lists.specs.Every.{all_below, at_below, below_fails, none_both}
 use Rattle.ranges.specs.Table.{named}
 use Rattle.table.specs.Table.{number_of, ranges_of, zero_range}
 use Rattle.chains.specs.Chains.{Chained, chained_alike, chained_next, in_chain, last_below}
-use Rattle.chains.specs.Entries.{below_same, entries, entries_first, entries_none, entries_over, link_below}
+use Rattle.chains.specs.Entries.{entries, entries_first, entries_none, entries_over}
+use Rattle.chains.specs.Falling.{below_same, falling, falling_along, falling_first, falling_none, link_below}
 use Rattle.chains.specs.Walk.{Along, along_at, along_less, along_next, onward}
 use Rattle.window_search.specs.Windows.{chains_none, in_window, outside, windows_all}
 use Rattle.charts.specs.Charts.{chain_by, Empty}
@@ -139,10 +140,14 @@ pub record Entry (chain : ℕ → ℕ) (v : Cover) (p : Place) : Type 0 where
 pub record Covers (rs : List PageRange) (m : ℕ) (v : Cover) : Type 0 where
   pub chain : ℕ → ℕ
   pub few : count v ≤ m + m
-  pub sizes : size_count v ≤ m
   pub filed : Filed chain v
   pub inside : (c : ℕ) → c < count v → (p : Place) → within (interval_at v c) p ≡ true → all_below (outside rs p) m ≡ false
   pub entry : (i : ℕ) (p : Place) → i < m → in_window rs p i ≡ true → Entry chain v p
+
+-- the same, each of the ranges having brought one size of blocks at most
+pub record CoversSized (rs : List PageRange) (m : ℕ) (v : Cover) : Type 0 where
+  pub covers : Covers rs m v
+  pub sizes : size_count v ≤ m
 
 -- each place of the intervals is found
 pub record Indexed (v : Cover) : Type 0 where
@@ -194,18 +199,18 @@ module _ (T : Interval → Bool → Type 0) (v : Cover) (h : ℕ) where
     pub sought_less : (chain : ℕ → ℕ) → Filed chain v → get_or v.chains.next i 0 ≤ i
     sought_less chain F = let q : i + 1 - 1 ≡ i = omega arith in let l = rw q at (along_less chain h v.chains.next (count v) (i + 1) (S.along chain F) (omega arith)) in omega arith
 
-    pub sought_next : (i < count v → T (interval_at v i) false) → Sought T v h (link_below (get_or v.chains.next i 0) i)
+    pub sought_next : (i < count v → T (interval_at v i) false) → Sought T v h (min (get_or v.chains.next i 0) i)
     sought_next t = record {
       along = λ d G.
           let q : i + 1 - 1 ≡ i = omega arith in
-          let m = below_same (get_or v.chains.next i 0) i (sought_less d G) in
+          let m : min (get_or v.chains.next i 0) i ≡ get_or v.chains.next i 0 = omega (arith, sought_less d G) in
           rw m (rw q at (along_next d h v.chains.next (count v) (i + 1) (S.along d G) (omega arith)));
       over = λ d G c l u e.
           by-lt c i
           (λ k.
           let q : i + 1 - 1 ≡ i = omega arith in
           let o = rw q at (onward d h v.chains.next (count v) (i + 1) (S.along d G) (omega arith)) in
-          absurd (false≢true (sym (last_over (in_chain d h) i c (omega (arith, o, l, below_same (get_or v.chains.next i 0) i (sought_less d G))) k) ∙ eq-eqb (d c) h e)))
+          absurd (false≢true (sym (last_over (in_chain d h) i c (omega (arith, o, l, sought_less d G)) k) ∙ eq-eqb (d c) h e)))
           (λ k. by-eq c i (λ q. rw q (t (omega arith))) (λ q. S.over d G c (omega arith) u e));
     }
 
@@ -222,14 +227,14 @@ module _ (T : Interval → Bool → Type 0) (v : Cover) (h : ℕ) where
   ahead_start rest b e = record { link = get_or v.chains.heads h 0; sought = sought_start b; is = e }
 
   module _ (i : ℕ) (rest : List ℕ) (A : Ahead T v h (i ∷ rest)) where
-    first : (A.link ≡ i + 1) × (rest ≡ entries v.chains.next (link_below (get_or v.chains.next i 0) i))
+    first : (A.link ≡ i + 1) × (rest ≡ entries v.chains.next (min (get_or v.chains.next i 0) i))
     first =
         by-lt 1024 A.link
         (λ h. let e : i ∷ rest ≡ [] = A.is ∙ entries_none v.chains.next A.link h in absurd (let z : ◌≡◌ {A = ℕ} 0 1 = cc in omega arith))
         (λ h. entries_first v.chains.next i rest A.link A.is h)
 
     pub ahead_next : (i < count v → T (interval_at v i) false) → Ahead T v h rest
-    ahead_next t = record { link = link_below (get_or v.chains.next i 0) i; sought = sought_next i (rw first.0 at A.sought) t; is = first.1 }
+    ahead_next t = record { link = min (get_or v.chains.next i 0) i; sought = sought_next i (rw first.0 at A.sought) t; is = first.1 }
 
     pub ahead_low : (chain : ℕ → ℕ) → Filed chain v → i < count v
     ahead_low chain F = omega (arith, (A.sought.along chain F).low, first.0)
@@ -241,6 +246,53 @@ module _ (T : Interval → Bool → Type 0) (v : Cover) (h : ℕ) where
   ahead_end A chain F =
       let l : A.link ≤ 1024 = omega (arith, (A.sought.along chain F).low, F.few) in
       sought_end (rw (entries_over v.chains.next A.link A.is l) at A.sought) chain F
+
+-- ---- the same walk by the entries of the chain as long as its links fall
+pub record AheadFalling (T : Interval → Bool → Type 0) (v : Cover) (h : ℕ) (rest : List ℕ) : Type 0 where
+  pub link : ℕ
+  pub sought : Sought T v h link
+  pub is : rest ≡ falling v.chains.next link
+
+module _ (T : Interval → Bool → Type 0) (v : Cover) (h : ℕ) where
+  -- where the intervals are in chains, these are all entries
+  falling_all : (rest : List ℕ) → AheadFalling T v h rest → (chain : ℕ → ℕ) → Filed chain v → Ahead T v h rest
+  falling_all rest A chain F =
+      record { link = A.link; sought = A.sought; is = A.is ∙ falling_along chain h v.chains.next (count v) A.link (A.sought.along chain F) }
+
+  pub falling_start : (rest : List ℕ) → h < 1024 → rest ≡ falling v.chains.next (get_or v.chains.heads h 0) → AheadFalling T v h rest
+  falling_start rest b e = record { link = get_or v.chains.heads h 0; sought = sought_start T v h b; is = e }
+
+  -- at slot i
+  module _ (i : ℕ) (S : Sought T v h (i + 1)) where
+    as_low : (chain : ℕ → ℕ) → Filed chain v → min (get_or v.chains.next i 0) i ≡ link_below (get_or v.chains.next i 0) i
+    as_low chain F = let l = sought_less T v h i S chain F in sym (below_same (get_or v.chains.next i 0) i l ∙ omega arith)
+
+    pub sought_falling : (i < count v → T (interval_at v i) false) → Sought T v h (link_below (get_or v.chains.next i 0) i)
+    sought_falling t =
+        let N = sought_next T v h i S t in
+        record {
+          along = λ d G. rw (as_low d G) at (N.along d G);
+          over = λ d G c l. N.over d G c (rw (as_low d G) l);
+        }
+
+  module _ (i : ℕ) (rest : List ℕ) (A : AheadFalling T v h (i ∷ rest)) where
+    begins_at : (A.link ≡ i + 1) × (rest ≡ falling v.chains.next (link_below (get_or v.chains.next i 0) i))
+    begins_at =
+        by-lt 1024 A.link
+        (λ h. let e : i ∷ rest ≡ [] = A.is ∙ falling_none v.chains.next A.link h in absurd (let z : ◌≡◌ {A = ℕ} 0 1 = cc in omega arith))
+        (λ h. falling_first v.chains.next i rest A.link A.is h)
+
+    pub falling_next : (i < count v → T (interval_at v i) false) → AheadFalling T v h rest
+    falling_next t = record { link = link_below (get_or v.chains.next i 0) i; sought = sought_falling i (rw begins_at.0 at A.sought) t; is = begins_at.1 }
+
+    pub falling_low : (chain : ℕ → ℕ) → Filed chain v → i < count v
+    falling_low chain F = ahead_low T v h i rest (falling_all (i ∷ rest) A chain F) chain F
+
+    pub falling_hit : T (interval_at v i) true → (chain : ℕ → ℕ) → Filed chain v → First T chain v h (Some i)
+    falling_hit t chain F = ahead_hit T v h i rest (falling_all (i ∷ rest) A chain F) t chain F
+
+  pub falling_ended : AheadFalling T v h [] → (chain : ℕ → ℕ) → Filed chain v → First T chain v h None
+  falling_ended A chain F = ahead_end T v h (falling_all [] A chain F) chain F
 
 -- ---- blocks
 -- indices less than a block apart lie in one block, or in two that adjoin
@@ -510,17 +562,16 @@ fails_below P (suc m) h =
     (λ e. let r = fails_below P m (rw e at h) in (r.0, omega (arith, r.1), r.2))
     (λ e. (m, omega arith, e))
 
-pub covers_none : (rs : List PageRange) (v : Cover) → count v ≡ 0 → size_count v ≡ 0 → v.chains.heads ≡ replicate 1024 0 → v.chains.next ≡ replicate 1024 0
+pub covers_none : (rs : List PageRange) (v : Cover) → count v ≡ 0 → ((j : ℕ) → j < size_count v → size_at v j ≤ 33) → v.chains.heads ≡ replicate 1024 0 → v.chains.next ≡ replicate 1024 0
     → Covers rs 0 v
 covers_none rs v e m h n = record {
   chain = chain_by rs;
   few = omega arith;
-  sizes = omega arith;
   filed = record {
     few = omega arith;
     heads = ap length h ∙ length-replicate {A = ℕ} 1024 0;
     next = ap length n ∙ length-replicate {A = ℕ} 1024 0;
-    small = λ j u. absurd (omega arith);
+    small = m;
     chained = rw e (chains_none rs v.chains h);
   };
   inside = λ c u. absurd (omega arith);
@@ -533,7 +584,6 @@ module _ (rs : List PageRange) (m : ℕ) (v : Cover) (C : Covers rs m v) where
   covers_skip e = record {
     chain = C.chain;
     few = omega (arith, C.few);
-    sizes = omega (arith, C.sizes);
     filed = C.filed;
     inside = λ c u p w. still_false (outside rs p) m (C.inside c u p w);
     entry = λ i p u t. by-eq i m (λ q. absurd (none p (rw q at t))) (λ q. C.entry i p (omega arith) t);
@@ -587,7 +637,6 @@ module _ (rs : List PageRange) (m : ℕ) (v : Cover) (C : Covers rs m v) where
     covers_next = record {
       chain = E.chains;
       few = omega (arith, C.few, E.few);
-      sizes = omega (arith, C.sizes, E.sized.few);
       filed = E.filed;
       inside = λ c u p x. not-true (all_below (outside rs p) (m + 1)) (passes c u p x);
       entry = entered;
@@ -636,6 +685,18 @@ module _ (rs : List PageRange) (m : ℕ) (v : Cover) (C : Covers rs m v) where
         (λ q. absurd (false≢true (sym (inside_false p q) ∙ t)))
         (inside_true p);
   }
+
+-- ---- with the sizes counted
+pub sized_none : (rs : List PageRange) (v : Cover) → count v ≡ 0 → size_count v ≡ 0 → v.chains.heads ≡ replicate 1024 0 → v.chains.next ≡ replicate 1024 0
+    → CoversSized rs 0 v
+sized_none rs v e m h n = record { covers = covers_none rs v e (λ j u. absurd (omega (arith, m))) h n; sizes = omega (arith, m) }
+
+module _ (rs : List PageRange) (m : ℕ) (v : Cover) (C : CoversSized rs m v) where
+  pub sized_skip : (get_or rs m zero_range).length ≡ 0 → CoversSized rs (m + 1) v
+  sized_skip e = record { covers = covers_skip rs m v C.covers e; sizes = omega (arith, C.sizes) }
+
+  pub sized_next : (w : Cover) (a : Interval) → ((p : Place) → within a p ≡ in_window rs p m) → Entered C.covers.chain v w a → CoversSized rs (m + 1) w
+  sized_next w a e E = record { covers = covers_next rs m v C.covers w a e E; sizes = omega (arith, C.sizes, E.sized.few) }
 
 -- ---- all sizes
 module _ (v : Cover) (p : Place) where

@@ -96,7 +96,7 @@ impl Cover {
         ensures first { (chain : ℕ → ℕ) → Filed chain self.now → First (F.post test) chain self.now h result }
     {
         let intervals = self.intervals.as_slice();
-        for i in self.chains.chain(h) {
+        for i in self.chains.falling(h) {
             if test(*intervals.get(i)?) {
                 return Some(i);
             }

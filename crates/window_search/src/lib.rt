@@ -66,7 +66,7 @@ impl Windows<'_> {
     fn walk(&self, place: Place, steps: &mut usize) -> Result<Option<usize>, GaveUp>
         ensures { IfOk result (Met self.now.ranges.now place) }
     {
-        for i in self.chains.chain(charts::chain_by(place.backing)) {
+        for i in self.chains.falling(charts::chain_by(place.backing)) {
             if self.has(i, place) {
                 return Ok(Some(i));
             }
@@ -97,7 +97,7 @@ impl Windows<'_> {
         if self.has(i, place) {
             return Some(i);
         }
-        if let Some(low) = self.chains.before(i).next()
+        if let Some(low) = self.chains.falling_before(i).next()
             && self.has(low, place)
         {
             return Some(low);

@@ -1,5 +1,6 @@
 use Rattle.std.proofs.Common.{ap, sym, ◌∙◌, [], not, arith, rules, length, ◌≡◌}
-use Rattle.chains.specs.Entries.{left_all, left_end, left_low, left_next}
+use Rattle.chains.specs.Entries.{left_end, left_low, left_next}
+use Rattle.chains.specs.Falling.{left_falling}
 use Rattle.lookup.specs.Charted.{found_none, found_there, lacks, walk_frames}
 use Rattle.lookup.proofs.frame_of.Goals as goal
 
@@ -10,8 +11,8 @@ loop-frame-init c =
       can_next = tt;
       is_finite = tt;
       left = rw c.into_iter-frame-iterator.ensures.into_iter_gives
-          (left_all a.charts.now.frames.next (lacks a.s.now.places a.backing a.index) a.s.now.frames _ c.chain-frame-items.result c.requires.1
-          (rw c.chain_to.ensures (walk_frames a.s.now.places a.s.now.frames a.charts.now.frames a.backing a.index c.requires.0)) c.chain-frame-items.ensures);
+          (left_falling a.charts.now.frames.next (lacks a.s.now.places a.backing a.index) a.s.now.frames _ c.falling-frame-items.result c.requires.1
+          (rw c.chain_to.ensures (walk_frames a.s.now.places a.s.now.frames a.charts.now.frames a.backing a.index c.requires.0)) c.falling-frame-items.ensures);
     }
 
 pub bounds-s-frame : goal.bounds-s-frame

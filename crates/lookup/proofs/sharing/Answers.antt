@@ -1,5 +1,5 @@
 use Rattle.std.proofs.Common.{[], ◌∙◌, ◌≡◌, arith, length, sym, rules}
-use Rattle.lookup.specs.Holders.{holders_private, holders_shared, left_few, left_low, left_miss, left_none, left_one, left_two}
+use Rattle.lookup.specs.Holders.{holders_private, holders_shared, left_falling, left_few, left_low, left_miss, left_one, left_two}
 use Rattle.lookup.proofs.sharing.Goals as goal
 
 pub loop-slot-init : goal.loop-slot-init
@@ -10,7 +10,7 @@ loop-slot-init c =
       can_next = tt;
       is_finite = tt;
       left = rw c.into_iter-slot-iterator.ensures.into_iter_gives
-          (left_none s.ranges s.count c.args.charts.now.ranges c.args.backing c.requires.0 (omega arith) c.chain-slot-items.result (rw c.chain_by.ensures at c.chain-slot-items.ensures));
+          (left_falling s.ranges s.count c.args.charts.now.ranges c.args.backing c.requires.0 (omega arith) c.falling-slot-items.result (rw c.chain_by.ensures at c.falling-slot-items.ensures));
     }
 
 pub bounds-store-slot : goal.bounds-store-slot

@@ -1,5 +1,6 @@
 use Rattle.std.proofs.Common.{rules, [], ◌≡◌, arith, not, sym, ap, ◌∙◌}
-use Rattle.chains.specs.Entries.{left_all, left_end, left_hit, left_low, left_next}
+use Rattle.chains.specs.Entries.{left_end, left_hit, left_low, left_next}
+use Rattle.chains.specs.Falling.{left_falling}
 use Rattle.store.specs.Sound.{alone?}
 use Rattle.place_tests.specs.Alone.{apart_from, apart_stands, walk_alone}
 use Rattle.place_tests.proofs.alone.Goals as goal
@@ -10,7 +11,7 @@ loop-earlier-init c =
       can_next = tt;
       is_finite = tt;
       left = rw c.into_iter-earlier-iterator.ensures.into_iter_gives
-          (left_all c.args.chains.now.next (apart_from c.args.s.now.places c.args.f) c.args.f _ c.before-earlier-items.result (omega (arith, c.requires.in_table)) (walk_alone c.args.s.now.places c.args.f c.requires.stands.1 c.args.chains.now.next c.requires.linked) c.before-earlier-items.ensures);
+          (left_falling c.args.chains.now.next (apart_from c.args.s.now.places c.args.f) c.args.f _ c.falling_before-earlier-items.result (omega (arith, c.requires.in_table)) (walk_alone c.args.s.now.places c.args.f c.requires.stands.1 c.args.chains.now.next c.requires.linked) c.falling_before-earlier-items.ensures);
     }
 
 pub bounds-s-earlier : goal.bounds-s-earlier

@@ -2,7 +2,7 @@ use Rattle.std.proofs.Common.{rules, refl, Bool, List, ◌≡◌, ◌≤◌, ◌
 use Rattle.std.specs.List.{list_all}
 use Rattle.std.proofs.lemmas.Fn.{fold_over, fronts, slice_gives}
 use Rattle.places.specs.declared.Place.{Place}
-use Rattle.places.specs.Places.{is_vacant, nowhere, place_at}
+use Rattle.places.specs.Places.{is_vacant, nowhere}
 use Rattle.lists.specs.Every.{below_fails, below_next}
 use Rattle.place_tests.specs.Bits.{all_passed, passed_more, part_place, word_kept?, word_used, word_free, zero_place?}
 use Rattle.place_tests.proofs.word_bits.Goals as goal

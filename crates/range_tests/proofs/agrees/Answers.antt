@@ -1,6 +1,7 @@
 use Rattle.std.proofs.Common.{rules, [], ◌≡◌, ◌+◌, true, sym, ◌∙◌, arith}
 use Rattle.lists.specs.Every.{all_below}
-use Rattle.chains.specs.Entries.{left_all, left_end, left_hit, left_low, left_next, left_same}
+use Rattle.chains.specs.Entries.{left_end, left_hit, left_low, left_next, left_same}
+use Rattle.chains.specs.Falling.{left_falling}
 use Rattle.range_tests.specs.Agree.{alike_to, same_agrees, walk_agree}
 use Rattle.range_tests.proofs.agrees.Goals as goal
 
@@ -10,8 +11,8 @@ loop-j-init c =
       can_next = tt;
       is_finite = tt;
       left = rw c.into_iter-j-iterator.ensures.into_iter_gives
-          (left_all c.args.chains.now.next (alike_to c.args.s.now.ranges c.args.i) c.args.i _ c.before-j-items.result (omega (arith, c.requires.in_table))
-          (walk_agree c.args.s.now.ranges c.args.chains.now.next (c.args.i + 1) c.args.i c.requires.linked (omega arith)) c.before-j-items.ensures);
+          (left_falling c.args.chains.now.next (alike_to c.args.s.now.ranges c.args.i) c.args.i _ c.falling_before-j-items.result (omega (arith, c.requires.in_table))
+          (walk_agree c.args.s.now.ranges c.args.chains.now.next (c.args.i + 1) c.args.i c.requires.linked (omega arith)) c.falling_before-j-items.ensures);
     }
 
 pub bounds-s-j : goal.bounds-s-j

@@ -1,5 +1,6 @@
 use Rattle.std.proofs.Common.{rules, [], ◌≡◌, arith, not, sym, ap, ◌∙◌}
-use Rattle.chains.specs.Entries.{left_all, left_end, left_hit, left_low, left_next}
+use Rattle.chains.specs.Entries.{left_end, left_hit, left_low, left_next}
+use Rattle.chains.specs.Falling.{left_falling}
 use Rattle.place_tests.specs.Seats.{missing, missing_stands, stands_told, walk_stands}
 use Rattle.place_tests.proofs.Frames.stands.Goals as goal
 
@@ -9,8 +10,8 @@ loop-frame-init c =
       can_next = tt;
       is_finite = tt;
       left = rw c.into_iter-frame-iterator.ensures.into_iter_gives
-          (left_all c.args.self.now.chains.now.next (missing c.args.self.now.s.now.places c.args.backing) c.args.self.now.s.now.frames _ c.chain-frame-items.result c.args.self.now.few
-          (rw c.chain_to.ensures (walk_stands c.args.self.now.s.now.places c.args.backing c.requires.numbered c.args.self.now.s.now.frames c.args.self.now.chains.now c.args.self.now.chained)) c.chain-frame-items.ensures);
+          (left_falling c.args.self.now.chains.now.next (missing c.args.self.now.s.now.places c.args.backing) c.args.self.now.s.now.frames _ c.falling-frame-items.result c.args.self.now.few
+          (rw c.chain_to.ensures (walk_stands c.args.self.now.s.now.places c.args.backing c.requires.numbered c.args.self.now.s.now.frames c.args.self.now.chains.now c.args.self.now.chained)) c.falling-frame-items.ensures);
     }
 
 pub bounds-self-frame : goal.bounds-self-frame

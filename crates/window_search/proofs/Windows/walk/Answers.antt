@@ -1,5 +1,6 @@
 use Rattle.std.proofs.Common.{ap, sym, ◌∙◌, [], not, arith, rules, length, ◌≡◌}
-use Rattle.chains.specs.Entries.{left_all, left_end, left_next}
+use Rattle.chains.specs.Entries.{left_end, left_next}
+use Rattle.chains.specs.Falling.{left_falling}
 use Rattle.window_search.specs.Windows.{in_table, met_none, outside, walk_windows}
 use Rattle.window_search.proofs.Windows.walk.Goals as goal
 
@@ -11,8 +12,8 @@ loop-i-init c =
       can_next = tt;
       is_finite = tt;
       left = rw c.into_iter-i-iterator.ensures.into_iter_gives
-          (left_all s.chains.now.next (outside s.ranges.now p) (length s.ranges.now) _ c.chain-i-items.result (omega (arith, s.few))
-          (rw c.chain_by.ensures (walk_windows s.ranges.now (length s.ranges.now) s.chains.now s.chained p)) c.chain-i-items.ensures);
+          (left_falling s.chains.now.next (outside s.ranges.now p) (length s.ranges.now) _ c.falling-i-items.result (omega (arith, s.few))
+          (rw c.chain_by.ensures (walk_windows s.ranges.now (length s.ranges.now) s.chains.now s.chained p)) c.falling-i-items.ensures);
     }
 
 pub returns-then-has : goal.returns-then-has
